@@ -1,0 +1,5 @@
+-- The laws of `bits`.
+pub mod Bits
+pub mod Over
+pub mod Bytes
+pub mod Shift

@@ -1,0 +1,3 @@
+-- The definitions of `bits`.
+pub mod Bits
+pub mod Over

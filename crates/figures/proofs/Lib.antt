@@ -1,0 +1,2 @@
+-- The figures' theorem.
+pub mod Agree

@@ -1,0 +1,64 @@
+-- Document 01's figures to hold it against: what the definitions give, beside what the paper says.
+-- Assumes nothing.
+use Prim.Native.Nat.{ℕ, suc, _+_, _/_, _%_}
+use mathlib.Core.List.{List, [], _∷_, map}
+use lib.ListN.{take, drop, replicate}
+use Rattle.bits.specs.Bits.{putBits}
+use Rattle.grid.specs.declared.Grid.{Grid}
+use Rattle.grid.specs.declared.InterleaveMode.{InterleaveMode}
+use Rattle.grid.specs.declared.InterleaveMode.the-variants.{B, P, R, S}
+use Rattle.grid.specs.Check.{gridOf}
+use Rattle.grid.specs.Sizes.{imageBytes, actualColumns}
+use Rattle.grid.specs.Layout.{place}
+
+-- the figures' letters
+pub data Letter : Type 0 where
+  a b c d k l m : Letter
+
+pub record Figure : Type 0 where
+  pub letter : Letter
+  pub found : List ℕ
+  pub paper : List ℕ
+
+-- picture 3 rows by 5 columns, blocks 2 rows by 4 columns, 2 bands, NBPP 8
+abbrev pub small : InterleaveMode → Grid
+small mode = gridOf 3 5 2 8 mode 4 2
+
+-- the bytes at which the two samples of block (1, 1) lie
+unfoldable pub corner : InterleaveMode → List ℕ
+corner mode = place (small mode) 1 1 0 0 0 / 8 ∷ place (small mode) 1 1 1 0 0 / 8 ∷ []
+
+-- one row of n columns, one band, one block
+abbrev pub line : ℕ → ℕ → Grid
+line nbpp n = gridOf 1 n 1 nbpp B n 1
+
+-- picture 2 by 3, blocks 2 by 2, NBPP 4
+abbrev pub edge : Grid
+edge = gridOf 2 3 1 4 B 2 2
+
+-- samples vs, from number n on, row by row, put at the places of a block of one band
+unfoldable pub laid : Grid → ℕ → ℕ → ℕ → List ℕ → List ℕ → List ℕ
+laid g row column n [] image = image
+laid g row column n (v ∷ vs) image =
+    laid g row column (suc n) vs
+    (putBits image (place g row column 0 (n / actualColumns g column) (n % actualColumns g column)) (g .nbpp) v)
+
+-- the image of a grid with the samples of one block
+unfoldable pub imageWith : Grid → ℕ → ℕ → List ℕ → List ℕ
+imageWith g row column vs = laid g row column 0 vs (replicate (imageBytes g) 0)
+
+unfoldable pub figures : List Figure
+figures =
+    record { letter = a; found = corner B; paper = 48 ∷ 56 ∷ [] }
+    ∷ record { letter = b; found = corner P; paper = 48 ∷ 49 ∷ [] }
+    ∷ record { letter = c; found = corner R; paper = 48 ∷ 52 ∷ [] }
+    ∷ record { letter = d; found = corner S; paper = 24 ∷ 56 ∷ [] }
+    ∷ record { letter = k; found = imageWith (line 12 3) 0 0 (0x123 ∷ 0x456 ∷ 0x789 ∷ []); paper = 0x12 ∷ 0x34 ∷ 0x56 ∷ 0x78 ∷ 0x90 ∷ [] }
+    ∷ record { letter = k; found = imageWith (line 12 1) 0 0 (0xF123 ∷ []); paper = 0x12 ∷ 0x30 ∷ [] }
+    ∷ record {
+      letter = l;
+      found = imageWith (line 1 10) 0 0 (1 ∷ 0 ∷ 1 ∷ 1 ∷ 0 ∷ 0 ∷ 0 ∷ 1 ∷ 1 ∷ 1 ∷ []);
+      paper = 0xB1 ∷ 0xC0 ∷ [];
+    }
+    ∷ record { letter = m; found = take 2 (drop 2 (imageWith edge 0 1 (5 ∷ 9 ∷ []))); paper = 0x59 ∷ 0x00 ∷ [] }
+    ∷ []

@@ -1,0 +1,2 @@
+-- The figures of document 01.
+pub mod Figures

@@ -1,0 +1,75 @@
+use borrow.Author.Needs.{needs}
+use mathlib.Core.Path.{_≡_, refl, sym, ap, ap₂, _∙_}
+use Rattle.grid.specs.Questions.{every}
+use Rattle.grid.specs.Check.{q1}
+use Rattle.grid.proofs.Questions.{no, yes, every-last}
+use Rattle.grid.proofs.Grid.sides_fit.Statement.{statement}
+use Rattle.grid.proofs.Grid.sides_fit.Tie as tie
+
+within-requires : tie.Need-within-requires
+within-requires c κs = search needs
+
+returns : tie.Need-returns
+unfolding q1 every
+returns c = simp (no (c .before .within .ensures) (c .if1 .taken))
+
+within-requires-2 : tie.Need-within-requires-2
+within-requires-2 c κs = search needs
+
+returns-2 : tie.Need-returns-2
+unfolding q1 every
+returns-2 c = simp (yes (c .before .before .before .within .ensures) (c .before .before .if1 .left), no (c .before .within2 .ensures) (c .if2 .taken))
+
+within-requires-3 : tie.Need-within-requires-3
+within-requires-3 c κs = search needs
+
+returns-3 : tie.Need-returns-3
+unfolding q1 every
+returns-3 c =
+    simp (
+      yes (c .before .before .before .before .before .within .ensures) (c .before .before .before .before .if1 .left),
+      yes (c .before .before .before .within2 .ensures) (c .before .before .if2 .left),
+      no (c .before .within3 .ensures) (c .if3 .taken),
+    )
+
+within-requires-4 : tie.Need-within-requires-4
+within-requires-4 c κs = search needs
+
+returns-4 : tie.Need-returns-4
+unfolding q1 every
+returns-4 c =
+    simp (
+      yes (c .before .before .before .before .before .before .before .within .ensures) (c .before .before .before .before .before .before .if1 .left),
+      yes (c .before .before .before .before .before .within2 .ensures) (c .before .before .before .before .if2 .left),
+      yes (c .before .before .before .within3 .ensures) (c .before .before .if3 .left),
+      no (c .before .within4 .ensures) (c .if4 .taken),
+    )
+
+within-requires-5 : tie.Need-within-requires-5
+within-requires-5 c κs = search needs
+
+returns-5 : tie.Need-returns-5
+unfolding q1 every
+returns-5 c =
+    simp (
+      yes (c .before .before .before .before .before .before .before .before .within .ensures) (c .before .before .before .before .before .before .before .if1 .left),
+      yes (c .before .before .before .before .before .before .within2 .ensures) (c .before .before .before .before .before .if2 .left),
+      yes (c .before .before .before .before .within3 .ensures) (c .before .before .before .if3 .left),
+      yes (c .before .before .within4 .ensures) (c .before .if4 .left),
+    )
+    (c .within5 .ensures ∙ every-last _)
+
+pub sides-fit-spec : {M : Type 1} → statement M
+sides-fit-spec =
+    tie.close
+    (tie.spec
+    within-requires
+    returns
+    within-requires-2
+    returns-2
+    within-requires-3
+    returns-3
+    within-requires-4
+    returns-4
+    within-requires-5
+    returns-5)

@@ -1,0 +1,64 @@
+-- The widths of question 2: past the table, and of a width that is taken.
+-- Assumes nothing.
+use mathlib.Core.Path.{_≡_, refl, sym, ap, _∙_}
+use mathlib.Core.Bool.{Bool, true, false}
+use mathlib.Core.List.{[], _∷_}
+use Prim.Native.Nat.{ℕ, zero, suc, _+_, _/_, _≤_, _<_}
+use native.Mathlib.Omega.{arith}
+use native.Mathlib.Decide.{decLt}
+use borrow.Author.Tests.{lt-leb, le-leb, ne-eqb}
+use Rattle.grid.specs.Questions.{some, within, every, pick}
+use Rattle.grid.specs.Widths.{widthTaken, widthBytes, ceilDiv}
+use Rattle.grid.proofs.Questions.{true-false}
+
+within-past : (lo hi x : ℕ) → hi < x → within lo hi x ≡ false
+unfolding within every
+within-past lo hi x h = go (decLt x lo)
+  where
+    go : Dec (x < lo) → within lo hi x ≡ false
+    go (yes l) = simp (lt-leb lo x l)
+    go (no l) = simp (le-leb lo x (omega arith), lt-leb x hi h)
+
+pub past : (n : ℕ) → 65 ≤ n → widthTaken n ≡ false
+unfolding widthTaken some
+past n h =
+    simp (
+      within-past 1 16 n (omega arith),
+      within-past 24 32 n (omega arith),
+      ne-eqb n 40 (λ e. omega arith),
+      ne-eqb n 48 (λ e. omega arith),
+      ne-eqb n 56 (λ e. omega arith),
+      ne-eqb n 64 (λ e. omega arith),
+    )
+
+zero-refused : widthTaken 0 ≡ false
+unfolding widthTaken some within every
+zero-refused = refl
+
+pub taken-pos : (n : ℕ) → widthTaken n ≡ true → 0 < n
+taken-pos zero e = true-false (sym e ∙ zero-refused)
+taken-pos (suc n) e = omega arith
+
+pub taken-top : (n : ℕ) → widthTaken n ≡ true → n ≤ 64
+taken-top n e = go (decLt n 65)
+  where
+    go : Dec (n < 65) → n ≤ 64
+    go (yes h) = omega arith
+    go (no h) = true-false (sym e ∙ past n (omega arith))
+
+-- the table says 0 exactly where the width is refused
+pub refused : (n : ℕ) → widthBytes n ≡ 0 → widthTaken n ≡ false
+unfolding widthBytes pick
+refused n e = go (widthTaken n) refl e
+  where
+    go : (b : Bool) → widthTaken n ≡ b → pick b (ceilDiv n 8) 0 ≡ 0 → b ≡ false
+    go false p q = refl
+    go true p q = absurd (let h : 0 < n = taken-pos n p in omega arith)
+
+pub taken : (n : ℕ) → (widthBytes n ≡ 0 → ⊥) → widthTaken n ≡ true
+unfolding widthBytes pick
+taken n e = go (widthTaken n) e
+  where
+    go : (b : Bool) → (pick b (ceilDiv n 8) 0 ≡ 0 → ⊥) → b ≡ true
+    go false q = absurd (q refl)
+    go true q = refl

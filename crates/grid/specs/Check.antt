@@ -1,0 +1,68 @@
+-- Questions 1 to 4, which every call with a grid asks first.
+-- Assumes nothing.
+use Prim.Native.Nat.{ℕ}
+use mathlib.Core.Path.{_≡_}
+use mathlib.Core.Bool.{Bool}
+use mathlib.Core.List.{[], _∷_}
+use lib.Dec.{leb, eqb}
+use Rattle.grid.specs.Questions.{ask, every, within}
+use Rattle.grid.specs.Widths.{ceilDiv, widthTaken}
+use Rattle.grid.specs.Sizes.{imageBytes}
+use Rattle.grid.specs.declared.Grid.{Grid}
+use Rattle.grid.specs.declared.InterleaveMode.{InterleaveMode}
+
+-- NROWS and NCOLS are 1 to 99,999,999, NPPBH and NPPBV 1 to 8,192, bands 1 to 99,999
+unfoldable pub q1 : Grid → Bool
+q1 g =
+    every
+    (within 1 99_999_999 (g .nrows)
+    ∷ within 1 99_999_999 (g .ncols)
+    ∷ within 1 8_192 (g .nppbh)
+    ∷ within 1 8_192 (g .nppbv)
+    ∷ within 1 99_999 (g .bands)
+    ∷ [])
+
+-- NBPP is a width that is taken
+abbrev pub q2 : Grid → Bool
+q2 g = widthTaken (g .nbpp)
+
+-- NBPR and NBPC are what the sides give, both at most 9,999
+unfoldable pub q3 : Grid → Bool
+q3 g =
+    every
+    (eqb (g .nbpr) (ceilDiv (g .ncols) (g .nppbh))
+    ∷ eqb (g .nbpc) (ceilDiv (g .nrows) (g .nppbv))
+    ∷ leb (g .nbpr) 9_999
+    ∷ leb (g .nbpc) 9_999
+    ∷ [])
+
+-- the image is at most 4,294,967,294 bytes
+unfoldable pub q4 : Grid → Bool
+q4 g = leb (imageBytes g) 4_294_967_294
+
+-- questions 1, 2, 3, 4, then the rest
+abbrev pub askGrid : Grid → ℕ → ℕ
+askGrid g rest = ask 1 (q1 g) (ask 2 (q2 g) (ask 3 (q3 g) (ask 4 (q4 g) rest)))
+
+-- the number of the first "no" of questions 1 to 4, or 0
+unfoldable pub gridNumber : Grid → ℕ
+gridNumber g = askGrid g 0
+
+-- a grid that questions 1 to 4 accept
+abbrev pub Accepted : Grid → Type 0
+Accepted g = gridNumber g ≡ 0
+
+-- the grid of a picture in blocks of NPPBV rows and NPPBH columns
+abbrev pub gridOf : ℕ → ℕ → ℕ → ℕ → InterleaveMode → ℕ → ℕ → Grid
+gridOf nrows ncols bands nbpp imode nppbh nppbv =
+    record {
+      nrows = nrows;
+      ncols = ncols;
+      bands = bands;
+      nbpp = nbpp;
+      imode = imode;
+      nppbh = nppbh;
+      nppbv = nppbv;
+      nbpr = ceilDiv ncols nppbh;
+      nbpc = ceilDiv nrows nppbv;
+    }

@@ -1,0 +1,142 @@
+// Questions 1 to 4.
+ghost use mathlib.Core.Path.{_≡_};
+ghost use mathlib.Core.Bool.{true};
+ghost use Rattle.grid.specs.Questions.{within as isWithin};
+ghost use Rattle.grid.specs.Widths.{ceilDiv};
+ghost use Rattle.grid.specs.Check.{q1, q2, q3, q4, gridNumber, gridOf};
+use crate::Grid;
+use crate::InterleaveMode;
+use crate::widths::width_bytes;
+
+fn within(lo: u32, hi: u32, x: u32) -> bool
+    ensures { λ r. ⌜ r ≡ isWithin lo hi x ⌝ }
+{
+    if x < lo {
+        return false;
+    }
+    x <= hi
+}
+
+// a / b, rounded up; 0 where b is 0.
+fn ceil_div(a: u32, b: u32) -> u32
+    ensures { λ r. ⌜ r ≡ ceilDiv a b ⌝ }
+{
+    if b == 0 {
+        return 0;
+    }
+    let wide = a as u64 + (b as u64 - 1);
+    (wide / b as u64) as u32
+}
+
+impl Grid {
+    pub const MAX_PICTURE_SIDE: u32 = 99_999_999;
+
+    pub const MAX_BLOCK_SIDE: u32 = 8_192;
+
+    pub const MAX_BANDS: u32 = 99_999;
+
+    // The most blocks across or down.
+    pub const MAX_BLOCKS: u32 = 9_999;
+
+    pub const MAX_IMAGE_BYTES: u64 = 4_294_967_294;
+
+    // A picture in blocks of `nppbv` rows and `nppbh` columns; NBPR and NBPC follow from the sides.
+    pub fn new(
+        nrows: u32,
+        ncols: u32,
+        bands: u32,
+        nbpp: u32,
+        imode: InterleaveMode,
+        nppbh: u32,
+        nppbv: u32,
+    ) -> Self
+        ensures { λ g. ⌜ g ≡ gridOf nrows ncols bands nbpp imode nppbh nppbv ⌝ }
+    {
+        let nbpr = ceil_div(ncols, nppbh);
+        let nbpc = ceil_div(nrows, nppbv);
+        Self {
+            nrows,
+            ncols,
+            bands,
+            nbpp,
+            imode,
+            nppbh,
+            nppbv,
+            nbpr,
+            nbpc,
+        }
+    }
+
+    // A picture that is one block.
+    pub fn one_block(nrows: u32, ncols: u32, bands: u32, nbpp: u32, imode: InterleaveMode) -> Self
+        ensures { λ g. ⌜ g ≡ gridOf nrows ncols bands nbpp imode ncols nrows ⌝ }
+    {
+        Self::new(nrows, ncols, bands, nbpp, imode, ncols, nrows)
+    }
+
+    // Question 1.
+    fn sides_fit(self) -> bool
+        ensures { λ r. ⌜ r ≡ q1 self ⌝ }
+    {
+        if !within(1, Self::MAX_PICTURE_SIDE, self.nrows) {
+            return false;
+        }
+        if !within(1, Self::MAX_PICTURE_SIDE, self.ncols) {
+            return false;
+        }
+        if !within(1, Self::MAX_BLOCK_SIDE, self.nppbh) {
+            return false;
+        }
+        if !within(1, Self::MAX_BLOCK_SIDE, self.nppbv) {
+            return false;
+        }
+        within(1, Self::MAX_BANDS, self.bands)
+    }
+
+    // Question 3.
+    fn blocks_fit(self) -> bool
+        ensures { λ r. ⌜ r ≡ q3 self ⌝ }
+    {
+        if self.nbpr != ceil_div(self.ncols, self.nppbh) {
+            return false;
+        }
+        if self.nbpc != ceil_div(self.nrows, self.nppbv) {
+            return false;
+        }
+        if Self::MAX_BLOCKS < self.nbpr {
+            return false;
+        }
+        self.nbpc <= Self::MAX_BLOCKS
+    }
+
+    // Question 4. The product is held against a quotient, so that it cannot wrap.
+    fn image_fits(self) -> bool
+        requires { ⌜ (q1 self ≡ true) × (q2 self ≡ true) × (q3 self ≡ true) ⌝ }
+        ensures { λ r. ⌜ r ≡ q4 self ⌝ }
+    {
+        let t = self.nominal_bytes() as u64;
+        let across = self.nbpr as u64;
+        let down = self.nbpc as u64;
+        let bands = self.bands as u64;
+        across * down * bands <= Self::MAX_IMAGE_BYTES / t
+    }
+
+    // The number of the first "no" of questions 1 to 4, or 0.
+    pub fn check(self) -> u32
+        ensures { λ r. ⌜ r ≡ gridNumber self ⌝ }
+    {
+        if !self.sides_fit() {
+            return 1;
+        }
+        if width_bytes(self.nbpp) == 0 {
+            return 2;
+        }
+        if !self.blocks_fit() {
+            return 3;
+        }
+        if !self.image_fits() {
+            return 4;
+        }
+        0
+    }
+}

@@ -1,0 +1,149 @@
+// Grids at every limit of questions 1 to 4, and the figures without a letter: prints what the check answers.
+use grid::Grid;
+use grid::InterleaveMode;
+
+const OUT: i32 = 1;
+
+fn number(label: &[u8], n: u64) {
+    io::write_all(OUT, label);
+    io::print_decimal(OUT, n);
+    io::write_all(OUT, b"\n");
+}
+
+fn answer(label: &[u8], g: Grid) {
+    number(label, g.check() as u64);
+}
+
+// The grid of the figures, at another width.
+fn figure(nbpp: u32) -> Grid {
+    Grid::new(3, 5, 2, nbpp, InterleaveMode::B, 4, 2)
+}
+
+// One row of blocks of one pixel, with its count of blocks given.
+fn across(nbpr: u32, ncols: u32) -> Grid {
+    let g = Grid::new(1, ncols, 1, 8, InterleaveMode::P, 1, 1);
+    let imode = g.imode;
+    Grid {
+        nrows: g.nrows,
+        ncols: g.ncols,
+        bands: g.bands,
+        nbpp: g.nbpp,
+        imode,
+        nppbh: g.nppbh,
+        nppbv: g.nppbv,
+        nbpr,
+        nbpc: g.nbpc,
+    }
+}
+
+// One column of blocks of one pixel, with its count of blocks given.
+fn down(nbpc: u32, nrows: u32) -> Grid {
+    let g = Grid::new(nrows, 1, 1, 8, InterleaveMode::R, 1, 1);
+    let imode = g.imode;
+    Grid {
+        nrows: g.nrows,
+        ncols: g.ncols,
+        bands: g.bands,
+        nbpp: g.nbpp,
+        imode,
+        nppbh: g.nppbh,
+        nppbv: g.nppbv,
+        nbpr: g.nbpr,
+        nbpc,
+    }
+}
+
+fn figures() {
+    let g = figure(8);
+    if g.check() != 0 {
+        io::write_all(OUT, b"the figures' grid is refused\n");
+        return;
+    }
+    number(b"NBPR ", g.nbpr as u64);
+    number(b"NBPC ", g.nbpc as u64);
+    number(b"t ", g.band_bytes() as u64);
+    number(b"image ", g.image_bytes() as u64);
+    answer(b"NBPP 16: ", figure(16));
+    answer(b"NBPP 24: ", figure(24));
+    answer(b"NBPP 64: ", figure(64));
+    answer(b"NBPP 17: ", figure(17));
+    answer(b"NBPP 23: ", figure(23));
+    answer(b"NBPP 33: ", figure(33));
+    answer(b"NBPP 65: ", figure(65));
+}
+
+fn widths() {
+    answer(b"NBPP 0: ", figure(0));
+    answer(b"NBPP 1: ", figure(1));
+    answer(b"NBPP 39: ", figure(39));
+    answer(b"NBPP 40: ", figure(40));
+    answer(b"NBPP 63: ", figure(63));
+    answer(b"NBPP 4294967295: ", figure(4_294_967_295));
+}
+
+fn sides() {
+    let b = InterleaveMode::B;
+    answer(b"NROWS 0: ", Grid::new(0, 5, 1, 8, b, 4, 2));
+    answer(
+        b"NROWS 99999999: ",
+        Grid::new(99_999_999, 1, 1, 1, b, 1, 8_192),
+    );
+    answer(
+        b"NROWS 100000000: ",
+        Grid::new(100_000_000, 1, 1, 1, b, 1, 8_192),
+    );
+    answer(
+        b"NCOLS 4294967295: ",
+        Grid::new(1, 4_294_967_295, 1, 1, b, 8_192, 1),
+    );
+    answer(b"NPPBH 0: ", Grid::new(3, 5, 1, 8, b, 0, 2));
+    answer(b"NPPBH 8192: ", Grid::new(3, 5, 1, 8, b, 8_192, 2));
+    answer(b"NPPBH 8193: ", Grid::new(3, 5, 1, 8, b, 8_193, 2));
+    answer(b"NPPBV 8193: ", Grid::new(3, 5, 1, 8, b, 4, 8_193));
+    answer(b"bands 0: ", Grid::new(3, 5, 0, 8, b, 4, 2));
+    answer(b"bands 99999: ", Grid::new(3, 5, 99_999, 8, b, 4, 2));
+    answer(b"bands 100000: ", Grid::new(3, 5, 100_000, 8, b, 4, 2));
+}
+
+fn counts() {
+    answer(b"NBPR 0: ", across(0, 1));
+    answer(b"NBPR 9999: ", across(9_999, 9_999));
+    answer(b"NBPR 10000: ", across(10_000, 10_000));
+    answer(b"NBPR 9999 of 10000: ", across(9_999, 10_000));
+    answer(b"NBPC 0: ", down(0, 1));
+    answer(b"NBPC 9999: ", down(9_999, 9_999));
+    answer(b"NBPC 10000: ", down(10_000, 10_000));
+    answer(b"NBPC 10000 of 9999: ", down(10_000, 9_999));
+}
+
+fn images() {
+    let s = InterleaveMode::S;
+    answer(
+        b"image of 4294967293 bytes: ",
+        Grid::new(1_143, 30_060_973, 1, 1, s, 3_253, 1_143),
+    );
+    answer(
+        b"image of 4294967295 bytes: ",
+        Grid::new(255, 257, 65_537, 8, s, 1, 1),
+    );
+    answer(
+        b"image of 4294967296 bytes: ",
+        Grid::new(256, 256, 65_536, 8, s, 1, 1),
+    );
+    answer(
+        b"image of 2 to the 64 bytes: ",
+        Grid::new(16_777_216, 16_777_216, 65_536, 8, s, 2_048, 2_048),
+    );
+    answer(
+        b"largest product: ",
+        Grid::new(81_911_808, 81_911_808, 99_999, 64, s, 8_192, 8_192),
+    );
+}
+
+fn main() {
+    figures();
+    widths();
+    sides();
+    counts();
+    images();
+}
