@@ -177,8 +177,9 @@ columns-pos g f column h = omega (arith, column-start g f column h, f .sides .np
 pub index-lt : (g : Grid) (row column : ℕ) → Block g row column → blockIndex g row column < blocks g
 index-lt g row column b = omega (arith, digits-lt {q = row} {m = g .nbpc} {r = column} {c = g .nbpr} (b .in-row) (b .in-column))
 
+pub blocks-pos : (g : Grid) → Facts g → 0 < blocks g
+blocks-pos g f = prod-le 1 1 (g .nbpr) (g .nbpc) (across-pos g f) (down-pos g f)
+
 -- a block's nominal bytes are no more than the image
 pub block-le : (g : Grid) → Facts g → g .bands * bandBytes g ≤ imageBytes g
-block-le g f =
-    let p : 1 * 1 ≤ blocks g = prod-le _ _ _ _ (across-pos g f) (down-pos g f) in
-    omega (arith, mul-le-mul-right (g .bands * bandBytes g) p)
+block-le g f = omega (arith, mul-le-mul-right (g .bands * bandBytes g) (blocks-pos g f))

@@ -6,3 +6,5 @@ pub mod Taken
 pub mod Accepted
 pub mod Order
 pub mod SamplePlaces
+pub mod Listed
+pub mod Even

@@ -49,13 +49,13 @@ run-is S g index k = refl
 -- ---- a sample's slot, and its place there
 
 -- byte multiples: a sample is 8 s bits, and t is the nominal samples' bytes
-whole-width : (g : Grid) → g .nbpp % 8 ≡ 0 → g .nbpp ≡ sampleBytes g * 8
+pub whole-width : (g : Grid) → g .nbpp % 8 ≡ 0 → g .nbpp ≡ sampleBytes g * 8
 whole-width g e = omega arith
 
 band-eq : (h v s : ℕ) → (h * v * (s * 8) + (8 - 1)) / 8 ≡ v * h * s
 band-eq h v s = omega arith
 
-whole-band : (g : Grid) → g .nbpp % 8 ≡ 0 → bandBytes g ≡ g .nppbv * g .nppbh * sampleBytes g
+pub whole-band : (g : Grid) → g .nbpp % 8 ≡ 0 → bandBytes g ≡ g .nppbv * g .nppbh * sampleBytes g
 unfolding bandBytes
 whole-band g e =
     ap (λ (x : ℕ). (g .nppbh * g .nppbv * x + (8 - 1)) / 8) (whole-width g e) ∙ band-eq (g .nppbh) (g .nppbv) (sampleBytes g)
@@ -116,22 +116,22 @@ place-whole S g index b r c e hr hc = whole-s g index b r c e hr hc
 run-place : (m : InterleaveMode) (g : Grid) (index k x : ℕ) → 8 * runByte m g index k + x ≡ slot m g index k * (bandBytes g * 8) + x
 run-place m g index k x = ap (λ (y : ℕ). 8 * y + x) (run-is m g index k) ∙ eight (slot m g index k) (bandBytes g) x
 
-whole-mod : (g : Grid) → byteMultiple g ≡ true → g .nbpp % 8 ≡ 0
+pub whole-mod : (g : Grid) → byteMultiple g ≡ true → g .nbpp % 8 ≡ 0
 whole-mod g e = eqb-true (g .nbpp % 8) 0 e
 
-sideV-lt : (w : Bool) (g : Grid) (row r : ℕ) → r < actualRows g row → r < sideV w g row
+pub sideV-lt : (w : Bool) (g : Grid) (row r : ℕ) → r < actualRows g row → r < sideV w g row
 sideV-lt true g row r h = omega (arith, rows-le g row)
 sideV-lt false g row r h = h
 
-sideH-lt : (w : Bool) (g : Grid) (column c : ℕ) → c < actualColumns g column → c < sideH w g column
+pub sideH-lt : (w : Bool) (g : Grid) (column c : ℕ) → c < actualColumns g column → c < sideH w g column
 sideH-lt true g column c h = omega (arith, columns-le g column)
 sideH-lt false g column c h = h
 
-sideV-le : (w : Bool) (g : Grid) (row : ℕ) → sideV w g row ≤ g .nppbv
+pub sideV-le : (w : Bool) (g : Grid) (row : ℕ) → sideV w g row ≤ g .nppbv
 sideV-le true g row = omega arith
 sideV-le false g row = rows-le g row
 
-sideH-le : (w : Bool) (g : Grid) (column : ℕ) → sideH w g column ≤ g .nppbh
+pub sideH-le : (w : Bool) (g : Grid) (column : ℕ) → sideH w g column ≤ g .nppbh
 sideH-le true g column = omega arith
 sideH-le false g column = columns-le g column
 

@@ -5,3 +5,5 @@ pub mod Sizes
 pub mod Check
 pub mod Layout
 pub mod Slots
+pub mod Bands
+pub mod Strides

@@ -45,7 +45,7 @@ impl Grid {
     }
 
     // How many samples stand before sample (b, r, c) in the order of the mode.
-    fn sample_ordinal(self, rows: usize, columns: usize, b: usize, r: usize, c: usize) -> usize
+    pub fn sample_ordinal(self, rows: usize, columns: usize, b: usize, r: usize, c: usize) -> usize
         requires { ⌜ (b < self .bands) × (r < rows) × (c < columns) ⌝ }
         requires { ⌜ self .bands * (rows * columns) < 2 ^ 64 ⌝ }
         ensures { λ n. ⌜ n ≡ ordinal (self .imode) (self .bands) rows columns b r c ⌝ }

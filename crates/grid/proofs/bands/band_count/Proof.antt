@@ -1,0 +1,16 @@
+use mathlib.Core.Path.{_≡_, sym, _∙_}
+use Rattle.grid.specs.Bands.{bandCount}
+use Rattle.grid.proofs.Questions.{pick-yes, pick-no}
+use Rattle.grid.proofs.bands.band_count.Statement.{statement}
+use Rattle.grid.proofs.bands.band_count.Tie as tie
+
+returns : tie.Need-returns
+unfolding bandCount
+returns c = sym (pick-yes _ _ (c .if1 .taken))
+
+returns-2 : tie.Need-returns-2
+unfolding bandCount
+returns-2 c = sym (pick-no _ _ (c .if1 .left))
+
+pub band-count-spec : {M : Type 1} → statement M
+band-count-spec = tie.close (tie.spec returns returns-2)

@@ -1,0 +1,3 @@
+-- The laws of `samples`.
+pub mod Samples
+pub mod Moves

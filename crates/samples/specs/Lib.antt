@@ -1,0 +1,2 @@
+-- The definitions of `samples`.
+pub mod Samples
