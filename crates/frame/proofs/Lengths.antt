@@ -1,0 +1,104 @@
+-- What a store keeps of the image, put by put and run by run; above all its length.
+-- Assumes nothing.
+use Prim.Native.Nat.{ℕ, zero, suc, _+_, _≤_, _<_}
+use mathlib.Core.Path.{_≡_, refl, _∙_}
+use mathlib.Core.Bool.{Bool, true, false}
+use mathlib.Core.List.{List}
+use native.Mathlib.Omega.{arith}
+use native.Mathlib.Nat.{mul-le-mul-right}
+use lib.Arith.{digits-lt}
+use lib.ListN.{length, replicate, length-replicate}
+use Rattle.bits.specs.Bits.{putBits}
+use Rattle.bits.specs.Over.{over}
+use Rattle.bits.proofs.Bits.{length-putBits}
+use Rattle.bits.proofs.Over.{length-over}
+use Rattle.grid.specs.declared.Grid.{Grid}
+use Rattle.grid.specs.declared.InterleaveMode.{InterleaveMode}
+use Rattle.grid.specs.declared.InterleaveMode.the-variants.{B, P, R, S}
+use Rattle.grid.specs.Sizes.{bandBytes, blocks, imageBytes, blockIndex, actualRows, actualColumns, byteMultiple}
+use Rattle.grid.specs.Layout.{runByte, place, Block, Sample}
+use Rattle.grid.proofs.Accepted.{index-lt}
+use Rattle.marks.specs.Marks.{markWords}
+use Rattle.frame.specs.Writes.{dataAt, putBlock, clearRuns, storeBy, storeBlock, startBy, start}
+use Rattle.frame.proofs.Loops.{iter-keep, iter3-keep}
+use Rattle.frame.proofs.Numbers.{Enough, start-facts}
+
+-- ---- what each part of a store keeps
+
+pub put-keep : (g : Grid) (row column : ℕ) (dat : List ℕ) → Block g row column → (Q : List ℕ → Type 0)
+    → ((b r c : ℕ) → Sample g row column b r c → (y : List ℕ) → Q y → Q (putBits y (place g row column b r c) (g .nbpp) (dataAt g row column dat b r c)))
+    → (image : List ℕ) → Q image → Q (putBlock g row column dat image)
+unfolding putBlock
+put-keep g row column dat t Q s image q =
+    iter3-keep Q (actualRows g row) (g .bands) (actualColumns g column) _ image
+    (λ r b c hr hb hc y qy. s b r c (record { block = t; in-b = hb; in-r = hr; in-c = hc }) y qy) q
+
+pub clear-keep : (g : Grid) (row column : ℕ) (Q : List ℕ → Type 0)
+    → ((k : ℕ) → k < g .bands → (y : List ℕ) → Q y → Q (over y (runByte (g .imode) g (blockIndex g row column) k) (replicate (bandBytes g) 0)))
+    → (image : List ℕ) → Q image → Q (clearRuns g row column image)
+unfolding clearRuns
+clear-keep g row column Q s image q = iter-keep Q (g .bands) _ image s q
+
+-- a run lies inside the image
+run-in : (m : InterleaveMode) (g : Grid) (index k : ℕ) → index < blocks g → k < g .bands → runByte m g index k + bandBytes g ≤ imageBytes g
+run-in B g index k hi hk = omega (arith, mul-le-mul-right (bandBytes g) (digits-lt {q = index} {m = blocks g} hi hk))
+run-in P g index k hi hk = omega (arith, mul-le-mul-right (bandBytes g) (digits-lt {q = index} {m = blocks g} hi hk))
+run-in R g index k hi hk = omega (arith, mul-le-mul-right (bandBytes g) (digits-lt {q = index} {m = blocks g} hi hk))
+run-in S g index k hi hk = omega (arith, mul-le-mul-right (bandBytes g) (digits-lt {q = k} {m = g .bands} {r = index} {c = blocks g} hk hi))
+
+pub run-inside : (g : Grid) (row column k : ℕ) → Block g row column → k < g .bands
+    → runByte (g .imode) g (blockIndex g row column) k + bandBytes g ≤ imageBytes g
+run-inside g row column k t hk = run-in (g .imode) g (blockIndex g row column) k (index-lt g row column t) hk
+
+-- ---- lengths
+
+pub length-putBlock : (g : Grid) (row column : ℕ) (dat image : List ℕ) → Block g row column → length (putBlock g row column dat image) ≡ length image
+length-putBlock g row column dat image t =
+    put-keep g row column dat t (λ y. length y ≡ length image) (λ b r c s y e. length-putBits y _ _ _ ∙ e) image refl
+
+pub length-cleared : (g : Grid) (row column k : ℕ) (y : List ℕ) → Block g row column → k < g .bands → imageBytes g ≤ length y
+    → length (over y (runByte (g .imode) g (blockIndex g row column) k) (replicate (bandBytes g) 0)) ≡ length y
+length-cleared g row column k y t hk h =
+    length-over y _ (replicate (bandBytes g) 0) (omega (arith, run-inside g row column k t hk, length-replicate {A = ℕ} (bandBytes g) 0))
+
+pub length-clearRuns : (g : Grid) (row column : ℕ) (image : List ℕ) → Block g row column → imageBytes g ≤ length image
+    → length (clearRuns g row column image) ≡ length image
+length-clearRuns g row column image t h =
+    clear-keep g row column (λ y. length y ≡ length image)
+    (λ k hk y e. length-cleared g row column k y t hk (omega arith) ∙ e) image refl
+
+length-storeBy : (w : Bool) (g : Grid) (row column : ℕ) (dat image : List ℕ) → Block g row column → imageBytes g ≤ length image
+    → length (storeBy w g row column dat image) ≡ length image
+unfolding storeBy
+length-storeBy true g row column dat image t h = length-putBlock g row column dat image t
+length-storeBy false g row column dat image t h =
+    length-putBlock g row column dat (clearRuns g row column image) t ∙ length-clearRuns g row column image t h
+
+pub length-storeBlock : (g : Grid) (row column : ℕ) (dat image : List ℕ) → Block g row column → imageBytes g ≤ length image
+    → length (storeBlock g row column dat image) ≡ length image
+length-storeBlock g row column dat image t h = length-storeBy (byteMultiple g) g row column dat image t h
+
+-- ---- the buffers after a start
+
+pub length-zeros : (xs : List ℕ) (n : ℕ) → n ≤ length xs → length (over xs 0 (replicate n 0)) ≡ length xs
+length-zeros xs n h = length-over xs 0 (replicate n 0) (omega (arith, length-replicate {A = ℕ} n 0))
+
+module _ (g : Grid) (image marks : List ℕ) where
+  start-image : (n : ℕ) → (n ≡ 0 → Enough g (length image) (length marks)) → length (startBy n g image marks .image) ≡ length image
+  unfolding startBy
+  start-image zero f = length-zeros image (imageBytes g) (f refl .bytes)
+  start-image (suc n) f = refl
+
+  start-marks : (n : ℕ) → (n ≡ 0 → Enough g (length image) (length marks)) → length (startBy n g image marks .marks) ≡ length marks
+  unfolding startBy
+  start-marks zero f = length-zeros marks (markWords (blocks g)) (f refl .words)
+  start-marks (suc n) f = refl
+
+  -- whether or not the start is accepted
+  pub length-start-image : length (start g image marks .image) ≡ length image
+  unfolding start
+  length-start-image = start-image _ (start-facts g (length image) (length marks))
+
+  pub length-start-marks : length (start g image marks .marks) ≡ length marks
+  unfolding start
+  length-start-marks = start-marks _ (start-facts g (length image) (length marks))
