@@ -1,6 +1,7 @@
 -- Document 01's figures to hold it against: what the definitions give, beside what the paper says.
 -- Assumes nothing.
 use Prim.Native.Nat.{ℕ, suc, _+_, _/_, _%_}
+use mathlib.Core.Bool.{true, false}
 use mathlib.Core.List.{List, [], _∷_, map}
 use lib.ListN.{take, drop, replicate}
 use Rattle.bits.specs.Bits.{putBits}
@@ -10,10 +11,13 @@ use Rattle.grid.specs.declared.InterleaveMode.the-variants.{B, P, R, S}
 use Rattle.grid.specs.Check.{gridOf}
 use Rattle.grid.specs.Sizes.{imageBytes, actualColumns}
 use Rattle.grid.specs.Layout.{place}
+use Rattle.grid.specs.Bands.{Bands, bandsOf}
+use Rattle.samples.specs.Patched.{tabulate}
+use Rattle.frame.specs.Reads.{Filled, blockRead}
 
 -- the figures' letters
 pub data Letter : Type 0 where
-  a b c d k l m : Letter
+  a b c d e f g h i j k l m : Letter
 
 pub record Figure : Type 0 where
   pub letter : Letter
@@ -28,6 +32,18 @@ small mode = gridOf 3 5 2 8 mode 4 2
 unfoldable pub corner : InterleaveMode → List ℕ
 corner mode = place (small mode) 1 1 0 0 0 / 8 ∷ place (small mode) 1 1 1 0 0 / 8 ∷ []
 
+-- what a read of block (row, column) answers on an image of n bytes, byte q of which is q, with room for four bytes: the number, the shape, the output
+unfoldable pub readOf : InterleaveMode → ℕ → ℕ → ℕ → Bands → List ℕ
+readOf mode n row column bands =
+    let r : Filled = blockRead (small mode) (tabulate n (λ q. q)) row column 0 bands (0 ∷ 0 ∷ 0 ∷ 0 ∷ []) in
+    r .shape .number ∷ r .shape .bands ∷ r .shape .rows ∷ r .shape .columns ∷ r .out
+
+abbrev pub everyBand : Bands
+everyBand = bandsOf true []
+
+abbrev pub listed : List ℕ → Bands
+listed list = bandsOf false list
+
 -- one row of n columns, one band, one block
 abbrev pub line : ℕ → ℕ → Grid
 line nbpp n = gridOf 1 n 1 nbpp B n 1
@@ -38,14 +54,14 @@ edge = gridOf 2 3 1 4 B 2 2
 
 -- samples vs, from number n on, row by row, put at the places of a block of one band
 unfoldable pub laid : Grid → ℕ → ℕ → ℕ → List ℕ → List ℕ → List ℕ
-laid g row column n [] image = image
-laid g row column n (v ∷ vs) image =
-    laid g row column (suc n) vs
-    (putBits image (place g row column 0 (n / actualColumns g column) (n % actualColumns g column)) (g .nbpp) v)
+laid grid row column n [] image = image
+laid grid row column n (v ∷ vs) image =
+    laid grid row column (suc n) vs
+    (putBits image (place grid row column 0 (n / actualColumns grid column) (n % actualColumns grid column)) (grid .nbpp) v)
 
 -- the image of a grid with the samples of one block
 unfoldable pub imageWith : Grid → ℕ → ℕ → List ℕ → List ℕ
-imageWith g row column vs = laid g row column 0 vs (replicate (imageBytes g) 0)
+imageWith grid row column vs = laid grid row column 0 vs (replicate (imageBytes grid) 0)
 
 unfoldable pub figures : List Figure
 figures =
@@ -53,6 +69,12 @@ figures =
     ∷ record { letter = b; found = corner P; paper = 48 ∷ 49 ∷ [] }
     ∷ record { letter = c; found = corner R; paper = 48 ∷ 52 ∷ [] }
     ∷ record { letter = d; found = corner S; paper = 24 ∷ 56 ∷ [] }
+    ∷ record { letter = e; found = readOf P 50 1 1 everyBand; paper = 0 ∷ 2 ∷ 1 ∷ 1 ∷ 48 ∷ 49 ∷ 0 ∷ 0 ∷ [] }
+    ∷ record { letter = f; found = readOf P 49 1 1 everyBand; paper = 7 ∷ 0 ∷ 0 ∷ 0 ∷ 0 ∷ 0 ∷ 0 ∷ 0 ∷ [] }
+    ∷ record { letter = g; found = readOf P 64 2 0 everyBand; paper = 6 ∷ 0 ∷ 0 ∷ 0 ∷ 0 ∷ 0 ∷ 0 ∷ 0 ∷ [] }
+    ∷ record { letter = h; found = readOf P 64 1 1 (listed (1 ∷ 1 ∷ [])); paper = 0 ∷ 2 ∷ 1 ∷ 1 ∷ 49 ∷ 49 ∷ 0 ∷ 0 ∷ [] }
+    ∷ record { letter = i; found = readOf P 64 1 1 (listed (2 ∷ [])); paper = 8 ∷ 0 ∷ 0 ∷ 0 ∷ 0 ∷ 0 ∷ 0 ∷ 0 ∷ [] }
+    ∷ record { letter = j; found = readOf P 64 1 1 (listed []); paper = 0 ∷ 0 ∷ 1 ∷ 1 ∷ 0 ∷ 0 ∷ 0 ∷ 0 ∷ [] }
     ∷ record { letter = k; found = imageWith (line 12 3) 0 0 (0x123 ∷ 0x456 ∷ 0x789 ∷ []); paper = 0x12 ∷ 0x34 ∷ 0x56 ∷ 0x78 ∷ 0x90 ∷ [] }
     ∷ record { letter = k; found = imageWith (line 12 1) 0 0 (0xF123 ∷ []); paper = 0x12 ∷ 0x30 ∷ [] }
     ∷ record {

@@ -102,13 +102,15 @@ unfoldable pub dataAt : Grid → ℕ → ℕ → List ℕ → ℕ → ℕ → �
 dataAt g row column dat b r c =
     beAt dat (((b * actualRows g row + r) * actualColumns g column + c) * sampleBytes g) (sampleBytes g) % 2 ^ g .nbpp
 
+-- the first n samples of row r of band b of the block put at their places
+abbrev pub putRow : Grid → ℕ → ℕ → List ℕ → ℕ → ℕ → ℕ → List ℕ → List ℕ
+putRow g row column dat b r n image =
+    iter n (λ c im. putBits im (place g row column b r c) (g .nbpp) (dataAt g row column dat b r c)) image
+
 -- each actual sample of the block put at its place
 unfoldable pub putBlock : Grid → ℕ → ℕ → List ℕ → List ℕ → List ℕ
 putBlock g row column dat image =
-    iter (actualRows g row)
-    (λ r im. iter (g .bands)
-    (λ b im. iter (actualColumns g column)
-    (λ c im. putBits im (place g row column b r c) (g .nbpp) (dataAt g row column dat b r c)) im) im) image
+    iter (actualRows g row) (λ r im. iter (g .bands) (λ b im. putRow g row column dat b r (actualColumns g column) im) im) image
 
 -- the t bytes of each run of the block cleared
 unfoldable pub clearRuns : Grid → ℕ → ℕ → List ℕ → List ℕ

@@ -1,2 +1,3 @@
 -- The definitions of `samples`.
 pub mod Samples
+pub mod Patched
