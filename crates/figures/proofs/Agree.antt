@@ -14,8 +14,10 @@ use Rattle.grid.specs.Bands.{bandCount, bandAt, allBelow, q8}
 use Rattle.samples.specs.Samples.{values}
 use Rattle.samples.specs.Patched.{tabulate}
 use Rattle.frame.specs.Reads.{q6, bytesOf, filled, sampleAt, blockNumber, blockRead}
-use Rattle.figures.specs.Figures.{Figure, figures, corner, readOf, laid, imageWith}
+use Rattle.mask.specs.Table.{tableSize, tableBytes}
+use Rattle.mask.specs.Mask.{q17, q18, q20, q21, q22, writeNumber, writeBy, toBytes}
+use Rattle.figures.specs.Figures.{Figure, figures, corner, readOf, laid, imageWith, maskOf}
 
 pub agree : map (λ (f : Figure). f .found) figures ≡ map (λ (f : Figure). f .paper) figures
-unfolding figures corner imageWith laid place bandBytes actualRows actualColumns putBits setBit withBit readOf blockRead blockNumber filled bytesOf values beBytes sampleAt bitsAt bitAt over tabulate q1 q3 q4 q6 q8 blockEnd bandCount bandAt allBelow widthTaken every some within pick
+unfolding figures corner imageWith laid place bandBytes actualRows actualColumns putBits setBit withBit readOf blockRead blockNumber filled bytesOf values beBytes sampleAt bitsAt bitAt over tabulate q1 q3 q4 q6 q8 blockEnd bandCount bandAt allBelow widthTaken every some within pick maskOf toBytes writeBy writeNumber tableBytes tableSize q17 q18 q20 q21 q22
 agree = refl

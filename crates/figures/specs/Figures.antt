@@ -14,10 +14,11 @@ use Rattle.grid.specs.Layout.{place}
 use Rattle.grid.specs.Bands.{Bands, bandsOf}
 use Rattle.samples.specs.Patched.{tabulate}
 use Rattle.frame.specs.Reads.{Filled, blockRead}
+use Rattle.mask.specs.Mask.{WrittenOut, marksMask, toBytes}
 
 -- the figures' letters
 pub data Letter : Type 0 where
-  a b c d e f g h i j k l m : Letter
+  fig-a fig-b fig-c fig-d fig-e fig-f fig-g fig-h fig-i fig-j fig-k fig-l fig-m fig-n : Letter
 
 pub record Figure : Type 0 where
   pub letter : Letter
@@ -63,24 +64,36 @@ laid grid row column n (v ∷ vs) image =
 unfoldable pub imageWith : Grid → ℕ → ℕ → List ℕ → List ℕ
 imageWith grid row column vs = laid grid row column 0 vs (replicate (imageBytes grid) 0)
 
+-- the table of a picture of two blocks in B, written to 18 bytes: the number and the bytes
+unfoldable pub maskOf : List ℕ → List ℕ
+maskOf offsets =
+    let r : WrittenOut = toBytes (gridOf 1 2 1 8 B 1 1) marksMask offsets [] (replicate 18 0) in
+    r .answer .number ∷ r .out
+
 unfoldable pub figures : List Figure
 figures =
-    record { letter = a; found = corner B; paper = 48 ∷ 56 ∷ [] }
-    ∷ record { letter = b; found = corner P; paper = 48 ∷ 49 ∷ [] }
-    ∷ record { letter = c; found = corner R; paper = 48 ∷ 52 ∷ [] }
-    ∷ record { letter = d; found = corner S; paper = 24 ∷ 56 ∷ [] }
-    ∷ record { letter = e; found = readOf P 50 1 1 everyBand; paper = 0 ∷ 2 ∷ 1 ∷ 1 ∷ 48 ∷ 49 ∷ 0 ∷ 0 ∷ [] }
-    ∷ record { letter = f; found = readOf P 49 1 1 everyBand; paper = 7 ∷ 0 ∷ 0 ∷ 0 ∷ 0 ∷ 0 ∷ 0 ∷ 0 ∷ [] }
-    ∷ record { letter = g; found = readOf P 64 2 0 everyBand; paper = 6 ∷ 0 ∷ 0 ∷ 0 ∷ 0 ∷ 0 ∷ 0 ∷ 0 ∷ [] }
-    ∷ record { letter = h; found = readOf P 64 1 1 (listed (1 ∷ 1 ∷ [])); paper = 0 ∷ 2 ∷ 1 ∷ 1 ∷ 49 ∷ 49 ∷ 0 ∷ 0 ∷ [] }
-    ∷ record { letter = i; found = readOf P 64 1 1 (listed (2 ∷ [])); paper = 8 ∷ 0 ∷ 0 ∷ 0 ∷ 0 ∷ 0 ∷ 0 ∷ 0 ∷ [] }
-    ∷ record { letter = j; found = readOf P 64 1 1 (listed []); paper = 0 ∷ 0 ∷ 1 ∷ 1 ∷ 0 ∷ 0 ∷ 0 ∷ 0 ∷ [] }
-    ∷ record { letter = k; found = imageWith (line 12 3) 0 0 (0x123 ∷ 0x456 ∷ 0x789 ∷ []); paper = 0x12 ∷ 0x34 ∷ 0x56 ∷ 0x78 ∷ 0x90 ∷ [] }
-    ∷ record { letter = k; found = imageWith (line 12 1) 0 0 (0xF123 ∷ []); paper = 0x12 ∷ 0x30 ∷ [] }
+    record { letter = fig-a; found = corner B; paper = 48 ∷ 56 ∷ [] }
+    ∷ record { letter = fig-b; found = corner P; paper = 48 ∷ 49 ∷ [] }
+    ∷ record { letter = fig-c; found = corner R; paper = 48 ∷ 52 ∷ [] }
+    ∷ record { letter = fig-d; found = corner S; paper = 24 ∷ 56 ∷ [] }
+    ∷ record { letter = fig-e; found = readOf P 50 1 1 everyBand; paper = 0 ∷ 2 ∷ 1 ∷ 1 ∷ 48 ∷ 49 ∷ 0 ∷ 0 ∷ [] }
+    ∷ record { letter = fig-f; found = readOf P 49 1 1 everyBand; paper = 7 ∷ 0 ∷ 0 ∷ 0 ∷ 0 ∷ 0 ∷ 0 ∷ 0 ∷ [] }
+    ∷ record { letter = fig-g; found = readOf P 64 2 0 everyBand; paper = 6 ∷ 0 ∷ 0 ∷ 0 ∷ 0 ∷ 0 ∷ 0 ∷ 0 ∷ [] }
+    ∷ record { letter = fig-h; found = readOf P 64 1 1 (listed (1 ∷ 1 ∷ [])); paper = 0 ∷ 2 ∷ 1 ∷ 1 ∷ 49 ∷ 49 ∷ 0 ∷ 0 ∷ [] }
+    ∷ record { letter = fig-i; found = readOf P 64 1 1 (listed (2 ∷ [])); paper = 8 ∷ 0 ∷ 0 ∷ 0 ∷ 0 ∷ 0 ∷ 0 ∷ 0 ∷ [] }
+    ∷ record { letter = fig-j; found = readOf P 64 1 1 (listed []); paper = 0 ∷ 0 ∷ 1 ∷ 1 ∷ 0 ∷ 0 ∷ 0 ∷ 0 ∷ [] }
+    ∷ record { letter = fig-k; found = imageWith (line 12 3) 0 0 (0x123 ∷ 0x456 ∷ 0x789 ∷ []); paper = 0x12 ∷ 0x34 ∷ 0x56 ∷ 0x78 ∷ 0x90 ∷ [] }
+    ∷ record { letter = fig-k; found = imageWith (line 12 1) 0 0 (0xF123 ∷ []); paper = 0x12 ∷ 0x30 ∷ [] }
     ∷ record {
-      letter = l;
+      letter = fig-l;
       found = imageWith (line 1 10) 0 0 (1 ∷ 0 ∷ 1 ∷ 1 ∷ 0 ∷ 0 ∷ 0 ∷ 1 ∷ 1 ∷ 1 ∷ []);
       paper = 0xB1 ∷ 0xC0 ∷ [];
     }
-    ∷ record { letter = m; found = take 2 (drop 2 (imageWith edge 0 1 (5 ∷ 9 ∷ []))); paper = 0x59 ∷ 0x00 ∷ [] }
+    ∷ record { letter = fig-m; found = take 2 (drop 2 (imageWith edge 0 1 (5 ∷ 9 ∷ []))); paper = 0x59 ∷ 0x00 ∷ [] }
+    ∷ record {
+      letter = fig-n;
+      found = maskOf (0 ∷ 0xFFFF_FFFF ∷ []);
+      paper =
+          0 ∷ 0x00 ∷ 0x00 ∷ 0x00 ∷ 0x12 ∷ 0x00 ∷ 0x04 ∷ 0x00 ∷ 0x00 ∷ 0x00 ∷ 0x00 ∷ 0x00 ∷ 0x00 ∷ 0x00 ∷ 0x00 ∷ 0xFF ∷ 0xFF ∷ 0xFF ∷ 0xFF ∷ [];
+    }
     ∷ []

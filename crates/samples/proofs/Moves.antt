@@ -106,7 +106,7 @@ put-turn v size at step d k {x} {ys} b h ey ex ez =
 -- ---- samples side by side
 
 -- the bytes of a number read from bytes are those bytes
-beBytes-beAt : (xs : List ℕ) (p s : ℕ) → Bytes xs → p + s ≤ length xs → beBytes s (beAt xs p s) ≡ take s (drop p xs)
+pub beBytes-beAt : (xs : List ℕ) (p s : ℕ) → Bytes xs → p + s ≤ length xs → beBytes s (beAt xs p s) ≡ take s (drop p xs)
 unfolding beBytes beAt
 beBytes-beAt xs p zero b h = refl
 beBytes-beAt xs p (suc s) b h =
@@ -116,7 +116,7 @@ beBytes-beAt xs p (suc s) b h =
     ap₂ (λ (l : List ℕ) (x : ℕ). l ++ (x ∷ [])) (ap (beBytes s) q ∙ beBytes-beAt xs p s b (omega arith)) (m ∙ sym (getD-drop p xs s 0))
     ∙ sym (take-suc (drop p xs) s 0 (omega (arith, length-drop p xs)))
 
-side-by-side : (xs : List ℕ) (from s n : ℕ) → Bytes xs → from + n * s ≤ length xs → values (sideBySide xs from s) s n ≡ take (n * s) (drop from xs)
+pub side-by-side : (xs : List ℕ) (from s n : ℕ) → Bytes xs → from + n * s ≤ length xs → values (sideBySide xs from s) s n ≡ take (n * s) (drop from xs)
 unfolding values sideBySide
 side-by-side xs from s zero b h = sym (ap (λ (a : ℕ). take a (drop from xs)) (zero-mul s))
 side-by-side xs from s (suc n) b h =

@@ -70,13 +70,13 @@ getD-values v s (suc n) k j h l = go (ℕ-discrete k n) (λ m. getD-values v s n
         List·getD-append (values v s n) (beBytes s (v n)) 0 (k * s + j) (omega (arith, length-values v s n, within k n s m)) ∙ r m
 
 -- lists with the same bytes there have the same big-endian number there
-beAt-ext : (xs ys : List ℕ) (p q s : ℕ) → ((j : ℕ) → j < s → getD xs (p + j) 0 ≡ getD ys (q + j) 0) → beAt xs p s ≡ beAt ys q s
+pub beAt-ext : (xs ys : List ℕ) (p q s : ℕ) → ((j : ℕ) → j < s → getD xs (p + j) 0 ≡ getD ys (q + j) 0) → beAt xs p s ≡ beAt ys q s
 unfolding beAt
 beAt-ext xs ys p q zero h = refl
 beAt-ext xs ys p q (suc s) h = ap₂ (λ (a b : ℕ). a * 256 + b) (beAt-ext xs ys p q s (λ j l. h j (omega arith))) (h s (omega arith))
 
 -- the number in the bytes of v
-beAt-beBytes : (s v : ℕ) → beAt (beBytes s v) 0 s ≡ v % 2 ^ (8 * s)
+pub beAt-beBytes : (s v : ℕ) → beAt (beBytes s v) 0 s ≡ v % 2 ^ (8 * s)
 unfolding beAt beBytes
 beAt-beBytes zero v = omega arith
 beAt-beBytes (suc s) v =

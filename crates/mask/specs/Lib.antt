@@ -1,0 +1,3 @@
+-- The image data mask table.
+pub mod Table
+pub mod Mask
