@@ -1,0 +1,2 @@
+-- Reorderings.
+pub mod Interleave
