@@ -30,7 +30,7 @@ outside p at n ne = go (decLt p at) (decLt p (at + n))
     go (no l) (yes h) = absurd (ne (p - at) (omega arith) (omega arith))
 
 -- a sample ends inside the image
-sample-end : (g : Grid) (row column b r c : ℕ) → 0 < g .nbpp → Sample g row column b r c → place g row column b r c + g .nbpp ≤ imageBytes g * 8
+pub sample-end : (g : Grid) (row column b r c : ℕ) → 0 < g .nbpp → Sample g row column b r c → place g row column b r c + g .nbpp ≤ imageBytes g * 8
 sample-end g row column b r c h s =
     omega (arith, inside g row column b r c (g .nbpp - 1) (record { sample = s; in-i = omega arith }))
 

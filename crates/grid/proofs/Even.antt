@@ -139,7 +139,7 @@ along P g v h b r c j = omega arith
 along R g v h b r c j = omega arith
 along S g v h b r c j = omega arith
 
-stride-is : (m : InterleaveMode) (g : Grid) → columnStride m g ≡ columnSteps m g * g .nbpp
+pub stride-is : (m : InterleaveMode) (g : Grid) → columnStride m g ≡ columnSteps m g * g .nbpp
 stride-is B g = omega arith
 stride-is P g = refl
 stride-is R g = omega arith
@@ -222,7 +222,7 @@ strides-fit g f column =
     }
 
 -- the sum that rounds the rest of a run up
-steps-le : (m : InterleaveMode) (g : Grid) → 0 < g .bands → columnSteps m g ≤ g .bands
+pub steps-le : (m : InterleaveMode) (g : Grid) → 0 < g .bands → columnSteps m g ≤ g .bands
 steps-le B g h = h
 steps-le P g h = omega arith
 steps-le R g h = h

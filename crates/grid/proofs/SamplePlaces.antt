@@ -40,7 +40,7 @@ slot-mono P g index k k′ h = omega arith
 slot-mono R g index k k′ h = omega arith
 slot-mono S g index k k′ h = omega (arith, mul-le-mul-right (blocks g) h)
 
-run-is : (m : InterleaveMode) (g : Grid) (index k : ℕ) → runByte m g index k ≡ slot m g index k * bandBytes g
+pub run-is : (m : InterleaveMode) (g : Grid) (index k : ℕ) → runByte m g index k ≡ slot m g index k * bandBytes g
 run-is B g index k = omega arith
 run-is P g index k = omega arith
 run-is R g index k = omega arith

@@ -1,0 +1,6 @@
+-- The laws of `writing`.
+pub mod Zeros
+pub mod Turns
+pub mod Refusals
+pub mod Rows
+pub mod Bounds

@@ -1,0 +1,125 @@
+-- `writing::check::write_number` meets its contract, question by question.
+-- Assumes nothing.
+use borrow.Author.Needs.{needs}
+use mathlib.Core.Path.{_≡_, sym, _∙_}
+use mathlib.Core.Bool.{true}
+use borrow.Author.Tests.{eq-eqb, ne-eqb}
+use Rattle.grid.specs.Questions.{ask, every}
+use Rattle.grid.specs.Sizes.{actualRows, actualColumns}
+use Rattle.grid.specs.Layout.{Block}
+use Rattle.grid.proofs.Accepted.{facts}
+use Rattle.frame.specs.Writes.{q13, q14, skipNumber, writeNumber}
+use Rattle.frame.proofs.Numbers.{Enough, skip-facts}
+use Rattle.writing.proofs.Refusals.{block-before}
+use Rattle.writing.proofs.Bounds.{DataFits, data-fits}
+use Rattle.writing.proofs.check.write_number.Statement.{statement}
+use Rattle.writing.proofs.check.write_number.Tie as tie
+
+-- past question 6
+enough : (c : tie.Else1)
+    → let a = c .before .before .args in Enough (a .grid) (a .image) (a .words) × Block (a .grid) (a .block-row) (a .block-col)
+enough c = skip-facts _ _ _ _ _ (sym (c .before .block-number .ensures) ∙ c .if1 .left)
+
+asked : (c : tie.Else1)
+    → let a = c .before .before .args in
+    writeNumber (a .grid) (a .image) (a .words) (a .block-row) (a .block-col) (a .bands) (a .rows) (a .columns) (a .«data»)
+    ≡ ask 13 (q13 (a .grid) (a .block-row) (a .block-col) (a .bands) (a .rows) (a .columns)) (ask 14 (q14 (a .grid) (a .block-row) (a .block-col) (a .«data»)) 0)
+unfolding skipNumber writeNumber
+asked c = block-before _ _ _ _ _ .accepts (c .before .block-number .ensures) (c .if1 .left) _
+
+-- past question 13
+rows-in : (c : tie.Else3) → let a = c .before .before .before .before .before .before .args in a .rows ≡ actualRows (a .grid) (a .block-row)
+rows-in c = c .if3 .left ∙ c .before .actual-rows .ensures
+
+columns-in : (c : tie.Else4) → let a = c .before .before .before .before .before .before .before .before .args in a .columns ≡ actualColumns (a .grid) (a .block-col)
+columns-in c = c .if4 .left ∙ c .before .actual-columns .ensures
+
+shaped : (c : tie.Else4)
+    → let a = c .before .before .before .before .before .before .before .before .args in
+    q13 (a .grid) (a .block-row) (a .block-col) (a .bands) (a .rows) (a .columns) ≡ true
+unfolding q13 every
+shaped c =
+    rw (eq-eqb _ _ (c .before .before .before .before .if2 .left), eq-eqb _ _ (rows-in (c .before .before)), eq-eqb _ _ (columns-in c))
+
+-- and no product wraps
+fits : (c : tie.Else4) → let a = c .before .before .before .before .before .before .before .before .args in DataFits (a .grid) (a .block-row) (a .block-col)
+fits c = data-fits _ (facts _ (enough (c .before .before .before .before .before .before) .0 .accepted)) _ _
+
+block-number-requires : tie.Need-block-number-requires
+block-number-requires c κs = search needs
+
+returns : tie.Need-returns
+unfolding skipNumber writeNumber
+returns c = block-before _ _ _ _ _ .refuses (c .before .block-number .ensures) (c .if1 .taken) _
+
+cast-if2 : tie.Need-cast-if2
+cast-if2 c = search needs
+
+returns-2 : tie.Need-returns-2
+unfolding q13 every
+returns-2 c = rw (asked (c .before .before), ne-eqb _ _ (c .if2 .taken))
+
+actual-rows-requires : tie.Need-actual-rows-requires
+actual-rows-requires c κs = let k = enough (c .before .before) in (k .0 .accepted, k .1 .in-row)
+
+returns-3 : tie.Need-returns-3
+unfolding q13 every
+returns-3 c = rw (asked (c .before .before .before .before), eq-eqb _ _ (c .before .before .if2 .left), ne-eqb _ _ (rw (c .before .actual-rows .ensures) at (c .if3 .taken)))
+
+actual-columns-requires : tie.Need-actual-columns-requires
+actual-columns-requires c κs = let k = enough (c .before .before .before .before) in (k .0 .accepted, k .1 .in-column)
+
+returns-4 : tie.Need-returns-4
+unfolding q13 every
+returns-4 c =
+    rw (
+      asked (c .before .before .before .before .before .before),
+      eq-eqb _ _ (c .before .before .before .before .if2 .left),
+      eq-eqb _ _ (rows-in (c .before .before)),
+      ne-eqb _ _ (rw (c .before .actual-columns .ensures) at (c .if4 .taken)),
+    )
+
+mul-if5 : tie.Need-mul-if5
+mul-if5 c = rw (c .before .before .before .before .if2 .left, rows-in (c .before .before)) (record { fits = fits c .bands-rows })
+
+mul-if5-2 : tie.Need-mul-if5-2
+mul-if5-2 c = rw (c .before .before .before .before .if2 .left, rows-in (c .before .before), columns-in c) (record { fits = fits c .samples })
+
+sample-bytes-requires : tie.Need-sample-bytes-requires
+sample-bytes-requires c κs = enough (c .before .before .before .before .before .before) .0 .accepted
+
+mul-if5-3 : tie.Need-mul-if5-3
+mul-if5-3 c =
+    let k = c .before in
+    rw (k .before .before .before .before .if2 .left, rows-in (k .before .before), columns-in k, c .sample-bytes .ensures) (record { fits = fits k .bytes })
+
+returns-5 : tie.Need-returns-5
+unfolding q14
+returns-5 c =
+    let k = c .before .before in
+    rw (asked (k .before .before .before .before .before .before), shaped k, ne-eqb _ _ (rw (k .before .before .before .before .if2 .left, rows-in (k .before .before), columns-in k, c .before .sample-bytes .ensures) at (c .if5 .taken)))
+
+returns-6 : tie.Need-returns-6
+unfolding q14
+returns-6 c =
+    let k = c .before .before in
+    rw (asked (k .before .before .before .before .before .before), shaped k, eq-eqb _ _ (rw (k .before .before .before .before .if2 .left, rows-in (k .before .before), columns-in k, c .before .sample-bytes .ensures) at (c .if5 .left)))
+
+pub write-number-spec : {M : Type 1} → statement M
+write-number-spec =
+    tie.close
+    (tie.spec
+    block-number-requires
+    returns
+    cast-if2
+    returns-2
+    actual-rows-requires
+    returns-3
+    actual-columns-requires
+    returns-4
+    mul-if5
+    mul-if5-2
+    sample-bytes-requires
+    mul-if5-3
+    returns-5
+    returns-6)

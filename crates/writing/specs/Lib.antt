@@ -1,0 +1,2 @@
+-- The definitions of `writing`.
+pub mod Writable

@@ -1,0 +1,85 @@
+// The questions of the calls that write.
+ghost use mathlib.Core.Path.{_≡_};
+ghost use Rattle.frame.specs.Writes.{startNumber, skipNumber, progressNumber, writeNumber};
+use grid::Grid;
+
+// Questions 1 to 4 and 12, for so many mark words.
+pub fn marks_number(grid: Grid, words: usize) -> u32
+    ensures { λ r. ⌜ r ≡ progressNumber grid words ⌝ }
+{
+    let number = grid.check();
+    if number != 0 {
+        return number;
+    }
+    if words < marks::mark_words(grid.blocks()) {
+        return 12;
+    }
+    0
+}
+
+// Questions 1 to 4, 11 and 12, for an image of so many bytes and so many mark words.
+pub fn buffers_number(grid: Grid, image: usize, words: usize) -> u32
+    ensures { λ r. ⌜ r ≡ startNumber grid image words ⌝ }
+{
+    let number = grid.check();
+    if number != 0 {
+        return number;
+    }
+    if image < grid.image_bytes() {
+        return 11;
+    }
+    if words < marks::mark_words(grid.blocks()) {
+        return 12;
+    }
+    0
+}
+
+// The same, then question 6.
+pub fn block_number(grid: Grid, image: usize, words: usize, block_row: u32, block_col: u32) -> u32
+    ensures { λ r. ⌜ r ≡ skipNumber grid image words «block_row» «block_col» ⌝ }
+{
+    let number = buffers_number(grid, image, words);
+    if number != 0 {
+        return number;
+    }
+    if block_row >= grid.nbpc {
+        return 6;
+    }
+    if block_col >= grid.nbpr {
+        return 6;
+    }
+    0
+}
+
+// The same, then questions 13 and 14.
+pub fn write_number(
+    grid: Grid,
+    image: usize,
+    words: usize,
+    block_row: u32,
+    block_col: u32,
+    bands: usize,
+    rows: usize,
+    columns: usize,
+    data: usize,
+) -> u32
+    ensures { λ r. ⌜ r ≡ writeNumber grid image words «block_row» «block_col» bands rows columns «data» ⌝ }
+{
+    let number = block_number(grid, image, words, block_row, block_col);
+    if number != 0 {
+        return number;
+    }
+    if bands != grid.bands as usize {
+        return 13;
+    }
+    if rows != grid.actual_rows(block_row as usize) {
+        return 13;
+    }
+    if columns != grid.actual_columns(block_col as usize) {
+        return 13;
+    }
+    if data != bands * rows * columns * grid.sample_bytes() {
+        return 14;
+    }
+    0
+}
