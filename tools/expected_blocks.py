@@ -44,17 +44,44 @@ def first_bits(mode, nbpp, row, column, rows, columns):
     return places
 
 
+def samples(mode, nbpp, row, column, bands):
+    """The answer's rows, columns and bytes for listed bands of a block."""
+    rows, columns = min(NPPBV, NROWS - row * NPPBV), min(NPPBH, NCOLS - column * NPPBH)
+    places = first_bits(mode, nbpp, row, column, rows, columns)
+    out = ""
+    for b in bands:
+        for r in range(rows):
+            for c in range(columns):
+                p = places[(b, r, c)]
+                out += format(int(bits[p:p + nbpp], 2), f"0{2 * ceil(nbpp / 8)}x")
+    return rows, columns, out
+
+
+def line(*parts):
+    print(" ".join(str(part) for part in parts))
+
+
 bits = "".join(format(x, "08b") for x in image())
 for nbpp in (1, 4, 8, 11, 12, 16, 24, 31, 32, 40, 64):
     for mode in "BPRS":
         for row in range(NBPC):
             for column in range(NBPR):
-                rows, columns = min(NPPBV, NROWS - row * NPPBV), min(NPPBH, NCOLS - column * NPPBH)
-                places = first_bits(mode, nbpp, row, column, rows, columns)
-                out = ""
-                for b in range(BANDS):
-                    for r in range(rows):
-                        for c in range(columns):
-                            p = places[(b, r, c)]
-                            out += format(int(bits[p:p + nbpp], 2), f"0{2 * ceil(nbpp / 8)}x")
-                print(mode, nbpp, row, column, 0, BANDS, rows, columns, out.ljust(260, "a"))
+                rows, columns, out = samples(mode, nbpp, row, column, range(BANDS))
+                line(mode, nbpp, row, column, 0, BANDS, rows, columns, out.ljust(260, "a"))
+
+# The lower right block in P has one sample a band. Numbers are those of document 01's questions.
+rows, columns, three = samples("P", 12, 1, 1, [1, 0, 1])
+line("empty list", 0, 0, rows, columns, "a" * 18)
+line("bands 1 0 1", 0, 3, rows, columns, three.ljust(18, "a"))
+for label, number in (("one byte of output too few", 9), ("band 2", 8), ("level 1", 5), ("block row 2", 6), ("width 17", 2)):
+    line(label, number, 0, 0, 0, "a" * 10)
+# At 8 bits the last actual sample is byte 49; at 12 bits the last run ends with byte 95.
+for size, nbpp, number in ((49, 8, 7), (50, 8, 0), (95, 12, 7), (96, 12, 0)):
+    rows, columns, both = samples("P", nbpp, 1, 1, [0, 1])
+    answer = (number, 0, 0, 0, "a" * 10) if number else (0, 2, rows, columns, both.ljust(10, "a"))
+    line(size, "bytes", *answer)
+# A nominal block at 12 bits is 24 bytes; S gives an empty part, and so does a refusal.
+for mode, row, column, index in (("B", 0, 1, 1), ("P", 1, 1, 3), ("R", 1, 0, 2)):
+    line("whole", mode, 12, row, column, 0, "".join(f"{x:02x}" for x in image()[24 * index:24 * index + 24]))
+line("whole", "S", 12, 1, 1, 0, "")
+line("whole", "B", 12, 0, 2, 6, "")

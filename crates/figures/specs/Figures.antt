@@ -1,19 +1,21 @@
 -- Document 01's figures to hold it against: what the definitions give, beside what the paper says.
 -- Assumes nothing.
-use Prim.Native.Nat.{ℕ, suc, _+_, _/_, _%_}
+use Prim.Native.Nat.{ℕ, suc, _+_, _-_, _*_, _/_, _%_, _^_}
 use mathlib.Core.Bool.{true, false}
-use mathlib.Core.List.{List, [], _∷_, map}
+use mathlib.Core.List.{List, [], _∷_, _++_, map}
 use lib.ListN.{take, drop, replicate}
 use Rattle.bits.specs.Bits.{putBits}
 use Rattle.grid.specs.declared.Grid.{Grid}
 use Rattle.grid.specs.declared.InterleaveMode.{InterleaveMode}
 use Rattle.grid.specs.declared.InterleaveMode.the-variants.{B, P, R, S}
 use Rattle.grid.specs.Check.{gridOf}
-use Rattle.grid.specs.Sizes.{imageBytes, actualColumns}
+use Rattle.grid.specs.Sizes.{sampleBytes, imageBytes, actualColumns}
 use Rattle.grid.specs.Layout.{place}
 use Rattle.grid.specs.Bands.{Bands, bandsOf}
 use Rattle.samples.specs.Patched.{tabulate}
-use Rattle.frame.specs.Reads.{Filled, blockRead}
+use Rattle.frame.specs.declared.Answer.{Answer}
+use Rattle.frame.specs.Reads.{Filled, Window, blockRead, window}
+use Rattle.frame.specs.Writes.{Left, start, write, progress, finish}
 use Rattle.mask.specs.Mask.{WrittenOut, marksMask, toBytes}
 
 -- the figures' letters
@@ -64,6 +66,18 @@ laid grid row column n (v ∷ vs) image =
 unfoldable pub imageWith : Grid → ℕ → ℕ → List ℕ → List ℕ
 imageWith grid row column vs = laid grid row column 0 vs (replicate (imageBytes grid) 0)
 
+-- a run of calls: a start on an image and a mark word of ones, a write of block (row, column), progress, finish, and a window on the
+-- written row: the numbers of start and write, the count of progress, the number of finish, the image, the window's bytes
+unfoldable pub runOf : Grid → ℕ → ℕ → ℕ → ℕ → List ℕ → List ℕ
+runOf grid row column rows columns dat =
+    let s : Left = start grid (replicate (imageBytes grid) 255) ((2 ^ 64 - 1) ∷ []) in
+    let w : Left = write grid (s .image) (s .marks) row column 1 rows columns dat in
+    let p : Answer = progress grid (w .marks) in
+    let f : Answer = finish grid (w .image) (w .marks) in
+    let part : Window = record { row = 0; column = column * grid .nppbh; rows = 1; columns = columns; bands = everyBand } in
+    let seen : Filled = window grid (w .image) part (replicate (columns * sampleBytes grid) 0) in
+    s .answer .number ∷ w .answer .number ∷ p .first ∷ f .number ∷ (w .image ++ seen .out)
+
 -- the table of a picture of two blocks in B, written to 18 bytes: the number and the bytes
 unfoldable pub maskOf : List ℕ → List ℕ
 maskOf offsets =
@@ -84,12 +98,23 @@ figures =
     ∷ record { letter = fig-j; found = readOf P 64 1 1 (listed []); paper = 0 ∷ 0 ∷ 1 ∷ 1 ∷ 0 ∷ 0 ∷ 0 ∷ 0 ∷ [] }
     ∷ record { letter = fig-k; found = imageWith (line 12 3) 0 0 (0x123 ∷ 0x456 ∷ 0x789 ∷ []); paper = 0x12 ∷ 0x34 ∷ 0x56 ∷ 0x78 ∷ 0x90 ∷ [] }
     ∷ record { letter = fig-k; found = imageWith (line 12 1) 0 0 (0xF123 ∷ []); paper = 0x12 ∷ 0x30 ∷ [] }
+    ∷ record { letter = fig-k; found = runOf (line 12 1) 0 0 1 1 (0xF1 ∷ 0x23 ∷ []); paper = 0 ∷ 0 ∷ 1 ∷ 0 ∷ 0x12 ∷ 0x30 ∷ 0x01 ∷ 0x23 ∷ [] }
     ∷ record {
       letter = fig-l;
       found = imageWith (line 1 10) 0 0 (1 ∷ 0 ∷ 1 ∷ 1 ∷ 0 ∷ 0 ∷ 0 ∷ 1 ∷ 1 ∷ 1 ∷ []);
       paper = 0xB1 ∷ 0xC0 ∷ [];
     }
+    ∷ record {
+      letter = fig-l;
+      found = runOf (line 1 10) 0 0 1 10 (1 ∷ 0 ∷ 1 ∷ 1 ∷ 0 ∷ 0 ∷ 0 ∷ 1 ∷ 1 ∷ 1 ∷ []);
+      paper = 0 ∷ 0 ∷ 1 ∷ 0 ∷ 0xB1 ∷ 0xC0 ∷ 1 ∷ 0 ∷ 1 ∷ 1 ∷ 0 ∷ 0 ∷ 0 ∷ 1 ∷ 1 ∷ 1 ∷ [];
+    }
     ∷ record { letter = fig-m; found = take 2 (drop 2 (imageWith edge 0 1 (5 ∷ 9 ∷ []))); paper = 0x59 ∷ 0x00 ∷ [] }
+    ∷ record {
+      letter = fig-m;
+      found = runOf edge 0 1 2 1 (5 ∷ 9 ∷ []);
+      paper = 0 ∷ 0 ∷ 1 ∷ 15 ∷ 0 ∷ 0 ∷ 0x59 ∷ 0x00 ∷ 5 ∷ [];
+    }
     ∷ record {
       letter = fig-n;
       found = maskOf (0 ∷ 0xFFFF_FFFF ∷ []);
