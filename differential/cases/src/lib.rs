@@ -1,0 +1,25 @@
+//! Cases for the comparison: inputs on document 01's compared domain, a model of document 01, and
+//! the loop that holds two sides against each other.
+
+#![forbid(unsafe_code)]
+
+mod case;
+mod compare;
+mod figures;
+mod generate;
+mod grid;
+mod large;
+pub mod model;
+mod plans;
+mod shrink;
+mod source;
+
+pub use case::{Answer, Area, Call, Case, Header, Kind, Pack, PANIC, UNKNOWN};
+pub use compare::{Comparison, Difference, Tally};
+pub use figures::{figures, Figure};
+pub use generate::{generate, Lengths, Size};
+pub use grid::{Grid, Mode, WIDTHS};
+pub use large::large;
+pub use plans::{exhaustive, random_size, Plan};
+pub use shrink::shrink;
+pub use source::Source;

@@ -1,0 +1,100 @@
+//! The model against document 01's figures, and at the limits that the figures leave out.
+
+use cases::model::{answer, frame, mask, questions, read, reorder};
+use cases::{figures, Area, Grid, Header, Mode, Pack, WIDTHS};
+
+#[test]
+fn figures_hold() {
+    for figure in figures() {
+        assert_eq!(answer(&figure.case), figure.answer, "figure {}", figure.letter);
+    }
+}
+
+#[test]
+fn widths() {
+    for nbpp in 0..300 {
+        let grid = Grid::new([1, 1], 1, nbpp, Mode::B, [1, 1]);
+        let expected = if WIDTHS.contains(&nbpp) { 0 } else { 2 };
+        assert_eq!(questions::grid(&grid), expected, "NBPP {nbpp}");
+    }
+}
+
+#[test]
+fn grid_limits() {
+    let number = |picture, bands, nbpp, block| {
+        questions::grid(&Grid::new(picture, bands, nbpp, Mode::S, block))
+    };
+    assert_eq!(number([0, 1], 1, 8, [1, 1]), 1);
+    assert_eq!(number([1, 100_000_000], 1, 8, [1, 8192]), 1);
+    assert_eq!(number([1, 1], 1, 8, [1, 8193]), 1);
+    assert_eq!(number([1, 1], 0, 8, [1, 1]), 1);
+    assert_eq!(number([1, 1], 100_000, 8, [1, 1]), 1);
+    assert_eq!(number([9_999, 1], 1, 8, [1, 1]), 0);
+    assert_eq!(number([10_000, 1], 1, 8, [1, 1]), 3);
+    // 65,537 x 65,535 = 4,294,967,295.
+    assert_eq!(number([65_537, 13_107], 5, 8, [65_537_u32.div_ceil(9_999), 1]), 3);
+    assert_eq!(number([8_192, 8_192], 63, 8, [8_192, 8_192]), 0);
+    assert_eq!(number([8_192, 8_192], 64, 8, [8_192, 8_192]), 4);
+    let grid = Grid { nbpr: 2, ..Grid::new([1, 1], 1, 8, Mode::B, [1, 1]) };
+    assert_eq!(questions::grid(&grid), 3);
+}
+
+#[test]
+fn lent_buffers() {
+    let grid = Grid::new([2, 2], 1, 8, Mode::B, [1, 1]);
+    let image = [1, 2, 3, 4];
+    assert_eq!(read::block(&grid, &image, (0, 0), 0, None, &mut []).0, 9);
+    let area = Area { top: 1, left: 1, rows: 1, columns: 2 };
+    assert_eq!(read::window(&grid, &image, area, None, &mut [0; 4]), 10);
+    let area = Area { columns: 0, ..area };
+    assert_eq!(read::window(&grid, &image, area, None, &mut [0; 4]), 10);
+    let area = Area { top: 0, left: 0, rows: 2, columns: 2 };
+    assert_eq!(read::window(&grid, &image, area, None, &mut [0; 3]), 9);
+    assert_eq!(frame::start(&grid, &mut [0; 3], &mut []), 11);
+    assert_eq!(frame::start(&grid, &mut [0; 4], &mut []), 12);
+    assert_eq!(frame::progress(&grid, &[]), (12, 0));
+    // Bits above the grid's marks count for nothing.
+    assert_eq!(frame::progress(&grid, &[0xf5]), (0, 2));
+    assert_eq!(frame::finish(&grid, &image, &[0xf5]), (15, 0, 1));
+    let sequential = Grid { mode: Mode::S, ..grid };
+    assert_eq!(read::whole(&sequential, &[], (1, 1)), (0, &[][..]));
+    assert_eq!(read::whole(&sequential, &[], (2, 1)), (6, &[][..]));
+}
+
+#[test]
+fn mask_questions() {
+    let grid = Grid::new([1, 1], 1, 8, Mode::B, [1, 1]);
+    let write = |header: Header, blocks: &[u32], room: usize| {
+        mask::write(&grid, &header, blocks, &[], &mut vec![0; room])
+    };
+    let header = Header { block_length: 4, ..Header::default() };
+    assert_eq!(write(header, &[7], 14), (0, 14));
+    assert_eq!(write(header, &[7], 13), (9, 0));
+    assert_eq!(write(header, &[], 14), (22, 0));
+    assert_eq!(write(header, &[7, 7], 18), (22, 0));
+    assert_eq!(write(Header { block_length: 3, ..header }, &[7], 14), (17, 0));
+    assert_eq!(write(Header { code_bits: 33, ..header }, &[7], 20), (18, 0));
+    assert_eq!(write(Header { code: 1, ..header }, &[7], 20), (20, 0));
+    assert_eq!(write(Header { code_bits: 1, code: 256, ..header }, &[7], 20), (20, 0));
+    assert_eq!(write(Header { code_bits: 1, code: 255, ..header }, &[7], 20), (0, 15));
+    let many = Grid::new([9_999, 9_999], 21, 1, Mode::S, [1, 1]);
+    assert_eq!(mask::write(&many, &header, &[], &[], &mut []), (21, 0));
+    let table = [0, 0, 0, 14, 0, 4, 0, 0, 0, 0, 0, 0, 0, 9];
+    assert_eq!(mask::lookup(&grid, &table, (0, 0), 0), (0, true, Some(9)));
+    assert_eq!(mask::lookup(&grid, &table, (0, 1), 0), (6, false, None));
+    assert_eq!(mask::lookup(&grid, &table, (0, 0), 1), (8, false, None));
+}
+
+#[test]
+fn reordering_questions() {
+    let pack = Pack { mode: Mode::P, rows: 1, columns: 1, bands: 1, size: 1 };
+    assert_eq!(reorder::to_sequential(&Pack { size: 0, ..pack }, &[], &mut []), 2);
+    assert_eq!(reorder::to_sequential(&Pack { size: 9, ..pack }, &[0; 9], &mut [0; 9]), 2);
+    let large = Pack { rows: 1 << 31, columns: 1 << 31, bands: 4, ..pack };
+    assert_eq!(reorder::to_sequential(&large, &[], &mut []), 4);
+    assert_eq!(reorder::to_sequential(&pack, &[], &mut []), 14);
+    assert_eq!(reorder::from_sequential(&pack, &[1], &mut []), 9);
+    let none = Pack { rows: u32::MAX, columns: u32::MAX, bands: 0, ..pack };
+    assert_eq!(reorder::from_sequential(&none, &[], &mut []), 0);
+    assert_eq!(reorder::select(&pack, &[1], Some(&[1]), &mut []), 8);
+}

@@ -1,0 +1,49 @@
+//! A side that is wrong is found, and the case that shows it is small.
+
+use cases::{model, random_size, Answer, Case, Comparison, Difference, Kind, Mode, Source};
+
+/// The smallest case found that shows a difference from the model.
+fn found(kind: Kind, wrong: impl Fn(&Case) -> Answer) -> Box<Difference> {
+    let mut comparison = Comparison::new(|case: &Case| Some(wrong(case)), model::answer);
+    let mut from = Source::random(1);
+    for _ in 0..10_000 {
+        if let Err(difference) = comparison.drawn(kind, &mut from, &random_size()) {
+            return difference;
+        }
+        from.advance();
+    }
+    panic!("no difference found");
+}
+
+#[test]
+fn rows_taken_for_pixels() {
+    let difference = found(Kind::Read, |case| {
+        let mut case = case.clone();
+        if let Case::Read { grid, .. } = &mut case {
+            if grid.mode == Mode::P {
+                grid.mode = Mode::R;
+            }
+        }
+        model::answer(&case)
+    });
+    let Case::Read { grid, image, .. } = difference.case else { panic!("a read") };
+    // The least is a full block of one row, two columns and two bands of one bit.
+    assert_eq!((grid.mode, grid.bands, grid.nbpp), (Mode::P, 2, 1));
+    assert_eq!((grid.nrows, grid.ncols, image.len()), (1, 2, 2));
+}
+
+#[test]
+fn skip_that_clears() {
+    let difference = found(Kind::Frame, |case| {
+        let mut answer = model::answer(case);
+        if let Case::Frame { calls, .. } = case {
+            if calls.iter().any(|call| call.name() == "skip") {
+                answer.bytes[0] = 0;
+            }
+        }
+        answer
+    });
+    let Case::Frame { grid, calls } = difference.case else { panic!("a frame") };
+    assert_eq!((grid.nrows, grid.ncols), (1, 1));
+    assert_eq!(calls.len(), 2);
+}
