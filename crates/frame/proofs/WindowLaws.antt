@@ -27,7 +27,7 @@ use Rattle.frame.specs.Reads.{Window, q7, q10, crosses, sampleAt, pictur
 -- ---- tests
 
 -- two tests that say yes together are the same
-both-yes : (a b : Bool) → (a ≡ true → b ≡ true) → (b ≡ true → a ≡ true) → a ≡ b
+pub both-yes : (a b : Bool) → (a ≡ true → b ≡ true) → (b ≡ true → a ≡ true) → a ≡ b
 both-yes true b f h = sym (f refl)
 both-yes false true f h = h refl
 both-yes false false f h = refl

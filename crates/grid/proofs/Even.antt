@@ -239,3 +239,20 @@ pub rest-fits : (g : Grid) → Facts g → (row column n : ℕ)
     → runSize g row column - n % runSize g row column + (columnSteps (g .imode) g - 1) < 2 ^ 64
 rest-fits g f row column n =
     omega (arith, steps-le (g .imode) g (f .sides .bands-pos), f .sides .bands-le, run-small g f row column)
+
+-- ---- samples that fill their bytes start at bytes, as far apart as bytes
+
+pub whole-place : (g : Grid) (row column b r c : ℕ) → byteMultiple g ≡ true → place g row column b r c % 8 ≡ 0
+unfolding place
+whole-place g row column b r c e = rw e (omega arith)
+
+pub whole-stride : (g : Grid) → g .nbpp % 8 ≡ 0 → columnStride (g .imode) g % 8 ≡ 0
+whole-stride g e =
+    let h : columnStride (g .imode) g ≡ columnSteps (g .imode) g * (sampleBytes g * 8)
+    = stride-is (g .imode) g ∙ ap (λ (w : ℕ). columnSteps (g .imode) g * w) (whole-width g e) in
+    omega arith
+
+pub stride-le : (g : Grid) → Facts g → columnStride (g .imode) g ≤ 99_999 * 64
+stride-le g f =
+    let h : columnSteps (g .imode) g ≤ 99_999 = omega (arith, steps-le (g .imode) g (f .sides .bands-pos), f .sides .bands-le) in
+    omega (arith, stride-is (g .imode) g, prod-le (columnSteps (g .imode) g) (g .nbpp) 99_999 64 h (f .sides .nbpp-le))

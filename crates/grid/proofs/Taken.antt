@@ -3,7 +3,7 @@
 use mathlib.Core.Path.{_≡_, refl, sym, ap, _∙_}
 use mathlib.Core.Bool.{Bool, true, false}
 use mathlib.Core.List.{[], _∷_}
-use Prim.Native.Nat.{ℕ, zero, suc, _+_, _/_, _≤_, _<_}
+use Prim.Native.Nat.{ℕ, zero, suc, _+_, _*_, _/_, _≤_, _<_}
 use native.Mathlib.Omega.{arith}
 use native.Mathlib.Decide.{decLt}
 use borrow.Author.Tests.{lt-leb, le-leb, ne-eqb}
@@ -19,17 +19,21 @@ within-past lo hi x h = go (decLt x lo)
     go (yes l) = simp (lt-leb lo x l)
     go (no l) = simp (le-leb lo x (omega arith), lt-leb x hi h)
 
-pub past : (n : ℕ) → 65 ≤ n → widthTaken n ≡ false
+-- past 56 only 64 is taken
+past-56 : (n : ℕ) → 57 ≤ n → (n ≡ 64 → ⊥) → widthTaken n ≡ false
 unfolding widthTaken some
-past n h =
+past-56 n h ne =
     simp (
       within-past 1 16 n (omega arith),
       within-past 24 32 n (omega arith),
       ne-eqb n 40 (λ e. omega arith),
       ne-eqb n 48 (λ e. omega arith),
       ne-eqb n 56 (λ e. omega arith),
-      ne-eqb n 64 (λ e. omega arith),
+      ne-eqb n 64 ne,
     )
+
+pub past : (n : ℕ) → 65 ≤ n → widthTaken n ≡ false
+past n h = past-56 n (omega arith) (λ e. omega arith)
 
 zero-refused : widthTaken 0 ≡ false
 unfolding widthTaken some within every
@@ -45,6 +49,14 @@ taken-top n e = go (decLt n 65)
     go : Dec (n < 65) → n ≤ 64
     go (yes h) = omega arith
     go (no h) = true-false (sym e ∙ past n (omega arith))
+
+-- a width that fills no whole bytes is narrow enough for eight bytes at any bit
+pub narrow : (n : ℕ) → widthTaken n ≡ true → n < 8 * ceilDiv n 8 → n ≤ 57
+narrow n e h = go (decLt n 58)
+  where
+    go : Dec (n < 58) → n ≤ 57
+    go (yes l) = omega arith
+    go (no l) = true-false (sym e ∙ past-56 n (omega arith) (λ q. omega arith))
 
 -- the table says 0 exactly where the width is refused
 pub refused : (n : ℕ) → widthBytes n ≡ 0 → widthTaken n ≡ false

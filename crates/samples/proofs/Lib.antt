@@ -1,3 +1,4 @@
 -- The laws of `samples`.
 pub mod Samples
 pub mod Moves
+pub mod Patched

@@ -15,7 +15,7 @@ use Rattle.bits.proofs.Bits.{within, bitsAt-add, bitsAt-lt}
 use Rattle.bits.proofs.Bytes.{length-beBytes, bitsAt-bytes, putBits-bytes}
 use Rattle.bits.proofs.Over.{over-none, over-over}
 use Rattle.samples.specs.Samples.{values, spaced, sideBySide, putSpaced}
-use Rattle.samples.proofs.Samples.{length-values, values-next, values-ext, length-putSpaced, putSpaced-bytes}
+use Rattle.samples.proofs.Samples.{length-values, values-next, values-ext, values-add, length-putSpaced, putSpaced-bytes}
 
 -- ---- whole bytes
 
@@ -83,6 +83,17 @@ next-over v s d o k h =
 pub values-turn : (v : ℕ → ℕ) (s : ℕ) (d : List ℕ) (o k : ℕ) {x : ℕ} {ys zs : List ℕ} → o + (k * s + s) ≤ length d → ys ≡ over d o (values v s k) → x ≡ v k
     → zs ≡ over ys (o + k * s) (beBytes s x) → zs ≡ over d o (values v s (k + 1))
 values-turn v s d o k h ey ex ez = rw (ez, ex, ey) (next-over v s d o k h)
+
+-- n more samples, right after the k before
+pub values-run : (v w : ℕ → ℕ) (s : ℕ) (d : List ℕ) (o k n : ℕ) {ys zs : List ℕ} → o + k * s + n * s ≤ length d → ys ≡ over d o (values v s k)
+    → zs ≡ over ys (o + k * s) (values w s n) → ((j : ℕ) → j < n → w j ≡ v (k + j)) → zs ≡ over d o (values v s (k + n))
+values-run v w s d o k n h ey ez right =
+    let L : length (values v s k) ≡ k * s = length-values v s k in
+    let N : length (values (λ j. v (k + j)) s n) ≡ n * s = length-values (λ j. v (k + j)) s n in
+    ez ∙ ap₂ (λ (y : List ℕ) (vs : List ℕ). over y (o + k * s) vs) ey (values-ext w (λ j. v (k + j)) s n right)
+    ∙ ap (λ (a : ℕ). over (over d o (values v s k)) (o + a) (values (λ j. v (k + j)) s n)) (sym L)
+    ∙ over-over d o (values v s k) (values (λ j. v (k + j)) s n) (omega arith)
+    ∙ ap (over d o) (sym (values-add v s k n))
 
 pub putSpaced-none : (v : ℕ → ℕ) (width p step : ℕ) (d : List ℕ) → d ≡ putSpaced v width p step 0 d
 unfolding putSpaced

@@ -1,0 +1,169 @@
+// Reads every block of a small picture in every mode at eleven widths, then asks what document 01 makes of listed bands,
+// refusals and short files, and prints the answers. tools/expected_blocks.py works out what it must print.
+use frame::Shape;
+use grid::Grid;
+use grid::InterleaveMode;
+
+const OUT: i32 = 1;
+
+const WIDTHS: [u32; 11] = [1, 4, 8, 11, 12, 16, 24, 31, 32, 40, 64];
+
+const LETTERS: [u8; 4] = [b'B', b'P', b'R', b'S'];
+
+fn mode(i: usize) -> InterleaveMode {
+    match i {
+        0 => InterleaveMode::B,
+        1 => InterleaveMode::P,
+        2 => InterleaveMode::R,
+        _ => InterleaveMode::S,
+    }
+}
+
+// Picture 3 rows by 5 columns, blocks 2 rows by 4 columns, 2 bands.
+fn picture(i: usize, width: u32) -> Grid {
+    Grid::new(3, 5, 2, width, mode(i), 4, 2)
+}
+
+// The image's bytes: any numbers will do, if no two places look alike.
+fn fill(image: &mut [u8]) {
+    let mut x: u32 = 7;
+    for i in 0..image.len() {
+        x = (x % 65536 * 75 + 74) % 65537;
+        image[i] = (x % 256) as u8;
+    }
+}
+
+fn print_bytes(bytes: &[u8]) {
+    for i in 0..bytes.len() {
+        io::print_hex(OUT, bytes[i] as u64, 2);
+    }
+}
+
+fn print_number(n: u64) {
+    io::print_decimal(OUT, n);
+    io::write_all(OUT, b" ");
+}
+
+fn print_read(shape: Shape, out: &[u8]) {
+    print_number(shape.number as u64);
+    print_number(shape.bands as u64);
+    print_number(shape.rows as u64);
+    print_number(shape.columns as u64);
+    print_bytes(out);
+    io::write_all(OUT, b"\n");
+}
+
+fn print_mode(i: usize, width: u32) {
+    if i < 4 {
+        let letter = [LETTERS[i]];
+        io::write_all(OUT, &letter);
+    }
+    io::write_all(OUT, b" ");
+    print_number(width as u64);
+}
+
+fn print_block(image: &[u8], i: usize, width: u32, row: u32, column: u32) {
+    print_mode(i, width);
+    print_number(row as u64);
+    print_number(column as u64);
+    let mut out = [0xAAu8; 130];
+    let none: [u32; 0] = [];
+    let grid = picture(i, width);
+    let shape = reading::decode_block(image, grid, row, column, 0, true, &none, &mut out);
+    print_read(shape, &out);
+}
+
+fn every_block(image: &[u8], i: usize, width: u32) {
+    for k in 0..4 {
+        print_block(image, i, width, k / 2, k % 2);
+    }
+}
+
+fn every_mode(image: &[u8], width: u32) {
+    for i in 0..4 {
+        every_block(image, i, width);
+    }
+}
+
+fn every_width(image: &[u8]) {
+    for k in 0..11 {
+        every_mode(image, WIDTHS[k]);
+    }
+}
+
+// The lower right block in mode P.
+fn ask(label: &[u8], image: &[u8], width: u32, row: u32, level: u32, list: &[u32], out: &mut [u8]) {
+    io::write_all(OUT, label);
+    let shape = reading::decode_block(image, picture(1, width), row, 1, level, false, list, out);
+    print_read(shape, out);
+}
+
+fn ask_bands(image: &[u8]) {
+    let mut out = [0xAAu8; 9];
+    let none: [u32; 0] = [];
+    ask(b"empty list ", image, 12, 1, 0, &none, &mut out);
+    let three = [1, 0, 1];
+    ask(b"bands 1 0 1 ", image, 12, 1, 0, &three, &mut out);
+    let mut short = [0xAAu8; 5];
+    ask(
+        b"one byte of output too few ",
+        image,
+        12,
+        1,
+        0,
+        &three,
+        &mut short,
+    );
+    let high = [0, 2];
+    ask(b"band 2 ", image, 12, 1, 0, &high, &mut short);
+    ask(b"level 1 ", image, 12, 1, 1, &high, &mut short);
+    ask(b"block row 2 ", image, 12, 2, 0, &high, &mut short);
+    ask(b"width 17 ", image, 17, 1, 0, &high, &mut short);
+}
+
+// Only the first n bytes of the image are there.
+fn ask_front(label: &[u8], image: &[u8], n: usize, width: u32) {
+    if image.len() < n {
+        return;
+    }
+    let mut out = [0xAAu8; 5];
+    let both = [0, 1];
+    ask(label, &image[..n], width, 1, 0, &both, &mut out);
+}
+
+fn print_whole(image: &[u8], i: usize, row: u32, column: u32) {
+    io::write_all(OUT, b"whole ");
+    print_mode(i, 12);
+    print_number(row as u64);
+    print_number(column as u64);
+    let grid = picture(i, 12);
+    print_number(reading::whole::whole_number(image, grid, row, column) as u64);
+    let part = reading::whole::whole_block(image, grid, row, column);
+    print_bytes(part);
+    io::write_all(OUT, b"\n");
+}
+
+// At 8 bits the block's last sample is byte 49; at 12 bits its last run ends with byte 95.
+fn ask_fronts(image: &[u8]) {
+    ask_front(b"49 bytes ", image, 49, 8);
+    ask_front(b"50 bytes ", image, 50, 8);
+    ask_front(b"95 bytes ", image, 95, 12);
+    ask_front(b"96 bytes ", image, 96, 12);
+}
+
+fn print_wholes(image: &[u8]) {
+    print_whole(image, 0, 0, 1);
+    print_whole(image, 1, 1, 1);
+    print_whole(image, 2, 1, 0);
+    print_whole(image, 3, 1, 1);
+    print_whole(image, 0, 0, 2);
+}
+
+fn main() {
+    let mut image = [0u8; 512];
+    fill(&mut image);
+    every_width(&image);
+    ask_bands(&image);
+    ask_fronts(&image);
+    print_wholes(&image);
+}

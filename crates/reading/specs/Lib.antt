@@ -1,0 +1,4 @@
+-- The shared movement of samples.
+pub mod Parts
+pub mod Lines
+pub mod Blocks
