@@ -84,6 +84,7 @@ pub record InImage (g : Grid) (n row column level : ℕ) (bs : Bands) : Type 0 w
   pub reached : blockEnd g row column ≤ n
   pub bands-in : q8 (g .bands) bs ≡ true
 
+-- the number at each "no", and at the last "yes"
 module _ (g : Grid) (n row column level : ℕ) (bs : Bands) (m : ℕ) where
   pub read-grid : (gridNumber g ≡ 0 → ⊥) → gridNumber g ≡ blockNumber g n row column level bs m
   unfolding blockNumber
@@ -163,6 +164,7 @@ module _ (g : Grid) (n row column level : ℕ) (bs : Bands) (m : ℕ) where
 
 -- ---- the whole block
 
+-- the arm of the other modes is not that of S
 not-s : OneOf (0 ∷ 1 ∷ 2 ∷ []) (tagOf the-type S) → ⊥
 not-s h = ⊎-elim (λ e. omega arith) (λ h. ⊎-elim (λ e. omega arith) (λ e. omega arith) h) h
 

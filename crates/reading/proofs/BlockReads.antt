@@ -24,7 +24,7 @@ use Rattle.reading.proofs.BlockNumbers.{Read}
 
 -- ---- refusal
 
-no-answer : (k s bands rows columns : ℕ) (sample : ℕ → ℕ → ℕ → ℕ) (out : List ℕ) → (k ≡ 0 → ⊥)
+pub no-answer : (k s bands rows columns : ℕ) (sample : ℕ → ℕ → ℕ → ℕ) (out : List ℕ) → (k ≡ 0 → ⊥)
     → _≡_ {A = Filled} (record { shape = noShape k; out = out }) (filled k s bands rows columns sample out)
 unfolding filled
 no-answer zero s bands rows columns sample out e = absurd (e refl)
@@ -61,7 +61,7 @@ block-readable g n row column level bs m t =
     }
 
 -- every sample of the answer is in it, and none after
-whole-yes : (row column count rows columns k : ℕ) → 0 < rows → 0 < columns → k < count * rows * columns
+pub whole-yes : (row column count rows columns k : ℕ) → 0 < rows → 0 < columns → k < count * rows * columns
     → inPart (wholePart row column rows columns) count rows columns k ≡ true
 whole-yes row column count rows columns k hr hc h =
     sym (rect-part (wholePart row column rows columns) count rows columns k)
@@ -74,7 +74,7 @@ whole-yes row column count rows columns k hr hc h =
       column-to = omega (arith, mod-lt k hc);
     })
 
-whole-no : (row column count rows columns k : ℕ) → 0 < rows → 0 < columns → count * rows * columns ≤ k
+pub whole-no : (row column count rows columns k : ℕ) → 0 < rows → 0 < columns → count * rows * columns ≤ k
     → inPart (wholePart row column rows columns) count rows columns k ≡ false
 whole-no row column count rows columns k hr hc h =
     sym (rect-part (wholePart row column rows columns) count rows columns k)

@@ -30,6 +30,7 @@ use Rattle.reading.proofs.Movable.{movable}
 
 -- ---- along line i of band k of the answer
 
+-- where sample j of the line stands in the rectangle
 record At (rows columns row column k i j n : ℕ) : Type 0 where
   band : bandOf rows columns n ≡ k
   down : rowOf rows columns n - row ≡ i
@@ -106,6 +107,7 @@ even-movable g n start by p bs rows columns m e t b i i′ j′ w hb hi hi′ hj
     (movable g (t .accepted) n (p .row) (p .column) b (p .r + i) (p .c + 0) (p .r + i′) (p .c + j′) at w
     (record { block = t .block; in-b = hb; in-r = r; in-c = c }) (t .reached) hw first (last ∙ ap (λ (x : ℕ). at + (w - 1) * x) s))
 
+-- each of the part's rows can be moved
 pub even-lines : (g : Grid) (n start : ℕ) (by : Strides) (p : Part) (bs : Bands) (rows columns m : ℕ) → Even g start by p
     → Readable g n p bs rows columns m → 0 < bandCount (g .bands) bs → Lines g n start by p bs rows columns m
 even-lines g n start by p bs rows columns m e t some = record {
@@ -134,6 +136,7 @@ last-of h w s t hh hw e =
     let q : h * w - 1 ≡ (h - 1) * w + (w - 1) = omega (arith, ap (λ (x : ℕ). x * w) a, add-mul (h - 1) 1 w) in
     rw (e, q) (omega arith)
 
+-- they can be moved as one
 pub follow-lines : (g : Grid) (n start : ℕ) (by : Strides) (p : Part) (bs : Bands) (rows columns m : ℕ) → Even g start by p
     → Readable g n p bs rows columns m → 0 < bandCount (g .bands) bs → Follow by p columns
     → Lines g n start by (oneRow p columns) bs 1 (rows * columns) m
@@ -162,6 +165,7 @@ one-digits rows columns n hr hc =
     digits-of 1 (rows * columns) (bandOf rows columns n) 0 (rowOf rows columns n * columns + columnOf columns n) n (omega arith)
     (digits-lt (mod-lt (n / columns) hr) (mod-lt n hc)) (omega (arith, number-of rows columns n))
 
+-- the two answers have the same samples in the part, with the same numbers
 one-test : (p : Part) (count rows columns n : ℕ) → 0 < rows → 0 < columns → p .«to_column» ≡ 0 → p .columns ≡ columns
     → inPart (oneRow p columns) count 1 (rows * columns) n ≡ inPart p count rows columns n
 one-test p count rows columns n hr hc e₀ e =
@@ -220,7 +224,7 @@ one-number g image start by p bs rows columns n hr hc e₀ er h =
     sum : (a z r s w y x : ℕ) → z ≡ 0 → r ≡ w * s → a + (z - 0) * r + (y * w + x) * s ≡ a + y * r + x * s
     sum a z r s w y x ez er = rw (ez, er) (omega arith)
 
--- the strides along that row give the part's numbers, too
+-- what `read_lines` leaves, as the part's numbers: of the one row, and of the part's rows
 pub follow-done : (g : Grid) (image : List ℕ) (n start : ℕ) (by : Strides) (p : Part) (bs : Bands) (rows columns m : ℕ) (d : List ℕ) {zs : List ℕ} → Even g start by p
     → Readable g n p bs rows columns m → Follow by p columns
     → zs ≡ patched (sampleBytes g) (lineSample g image start by (oneRow p columns) bs 1 (rows * columns)) (inPart (oneRow p columns) (bandCount (g .bands) bs) 1 (rows * columns)) d

@@ -21,7 +21,7 @@ use Rattle.samples.proofs.Patched.{patched-run, patched-none, patched-patched, 
 use Rattle.reading.specs.declared.part.Part.{Part}
 use Rattle.reading.specs.Parts.{bandOf, rowOf, columnOf, inPart}
 
--- is sample n of the answer in the first `count` bands, in the `lines` rows from `row` on and the `length` columns from `column` on
+-- is sample n of the answer in the first `count` bands, in the `lines` rows from `row` on and in the `size` columns from `column` on
 unfoldable pub inRect : (count row lines column size rows columns n : ℕ) → Bool
 inRect count row lines column size rows columns n =
     every
@@ -32,7 +32,7 @@ inRect count row lines column size rows columns n =
     ∷ ltb (columnOf columns n) (column + size)
     ∷ [])
 
--- what it is
+-- the same as facts of numbers
 pub record Inside (count row lines column size rows columns n : ℕ) : Type 0 where
   pub band-lt : bandOf rows columns n < count
   pub row-from : row ≤ rowOf rows columns n
@@ -59,6 +59,7 @@ unfolding inRect every
 within-rect count row lines column size rows columns n i =
     simp (lt-ltb _ _ (i .band-lt), le-leb _ _ (i .row-from), lt-ltb _ _ (i .row-to), le-leb _ _ (i .column-from), lt-ltb _ _ (i .column-to))
 
+-- a part's test is that of its rectangle
 pub rect-part : (p : Part) (count rows columns n : ℕ)
     → inRect count (p .«to_row») (p .rows) (p .«to_column») (p .columns) rows columns n ≡ inPart p count rows columns n
 unfolding inRect inPart
@@ -141,7 +142,7 @@ pub no-bands : (s : ℕ) (v : ℕ → ℕ) (d : List ℕ) (row lines column size
 no-bands s v d row lines column size rows columns =
     sym (patched-none s v _ d (λ n l. outside 0 row lines column size rows columns n (λ i. omega arith)))
 
--- one more band of a row
+-- one more band of a row; the bytes of a sample, s, may stand as an equal t in what the callee leaves
 pub band-turn : (s : ℕ) (v w : ℕ → ℕ) (d : List ℕ) (k row i column size rows columns : ℕ) {t : ℕ} {ys zs : List ℕ} → 0 < s → row + i < rows → column + size ≤ columns
     → lineStart rows columns row column k i * s + size * s ≤ length d
     → ys ≡ patched s v (inRect k (row + i) 1 column size rows columns) d

@@ -1,0 +1,42 @@
+-- `windows::read_window` meets its contract.
+-- Assumes nothing.
+use borrow.Author.Needs.{needs}
+use denote.Ref.{now}
+use Rattle.grid.specs.Bands.{bandsOf}
+use Rattle.windows.specs.Windows.{rectangle}
+use Rattle.windows.proofs.Answers.{window-refused, window-read}
+use Rattle.windows.proofs.read_window.Statement.{statement}
+use Rattle.windows.proofs.read_window.Tie as tie
+
+window-number-requires : tie.Need-window-number-requires
+window-number-requires c κs = search needs
+
+returns : tie.Need-returns
+returns c = window-refused _ _ _ _ (c .before .window-number .ensures) (c .if1 .taken)
+
+read-rectangle-requires : tie.Need-read-rectangle-requires
+read-rectangle-requires c κs = search needs
+
+band-count-requires : tie.Need-band-count-requires
+band-count-requires c κs = search needs
+
+same-length : tie.Need-same-length
+same-length c = search needs
+
+returns-2 : tie.Need-returns-2
+returns-2 c =
+    let a = c .before .before .before .before .before .before .before .before .before .before .args in
+    rw (c .band-count .ensures)
+    (window-read (a .grid) (now (a .image)) (rectangle (a .row) (a .column) (a .rows) (a .columns) (bandsOf (a .all) (now (a .bands)))) (now (a .out))
+    (c .before .before .before .before .before .before .window-number .ensures) (c .before .before .before .before .before .if1 .left) (c .before .before .before .read-rectangle .ensures))
+
+pub read-window-spec : {M : Type 1} → statement M
+read-window-spec =
+    tie.close
+    (tie.spec
+    window-number-requires
+    returns
+    read-rectangle-requires
+    band-count-requires
+    same-length
+    returns-2)
