@@ -1,23 +1,20 @@
 -- The numbers that a write computes stay below their limits.
 -- Assumes nothing.
 use Prim.Native.Nat.{ℕ, zero, suc, _+_, _*_, _/_, _%_, _^_, _≤_, _<_}
-use mathlib.Core.Path.{_≡_, ap, _∙_}
+use mathlib.Core.Path.{_≡_}
 use native.Mathlib.Omega.{arith}
 use native.Mathlib.Nat.{mul-le-mul-right, suc-mul}
-use mathlib.Core.Bool.{true}
 use mathlib.Core.List.{List}
 use borrow.Author.Tests.{eq-eqb}
 use lib.Arith.{digits-lt}
 use lib.ListN.{length}
 use Rattle.bits.proofs.Bits.{within}
 use Rattle.grid.specs.declared.Grid.{Grid}
-use Rattle.grid.specs.Sizes.{sampleBytes, blocks, imageBytes, blockIndex, actualRows, actualColumns, byteMultiple}
-use Rattle.grid.specs.Layout.{place, Block, Sample}
-use Rattle.grid.specs.Strides.{columnStride, columnSteps}
+use Rattle.grid.specs.Sizes.{sampleBytes, blocks, imageBytes, blockIndex, actualRows, actualColumns}
+use Rattle.grid.specs.Layout.{Block, Sample}
 use Rattle.grid.proofs.Arith.{prod-le}
 use Rattle.grid.proofs.Accepted.{Facts, facts, rows-le, columns-le, index-lt}
-use Rattle.grid.proofs.SamplePlaces.{whole-width}
-use Rattle.grid.proofs.Even.{stride-is, steps-le}
+use Rattle.grid.proofs.Even.{whole-place, whole-stride, stride-le}
 use Rattle.marks.specs.Marks.{markWords}
 use Rattle.frame.proofs.StoredBits.{sample-end}
 use Rattle.writing.specs.Writable.{Writable}
@@ -87,22 +84,6 @@ image-end g f row column b r d (suc n) at step p =
     let t = p .sample in
     let s : Sample g row column b r (d + n) = record { block = t .block; in-b = t .in-b; in-r = t .in-r; in-c = omega (arith, p .ends) } in
     omega (arith, sample-end g row column b r (d + n) (f .sides .nbpp-pos) s, p .spaced n (omega arith), suc-mul n step)
-
--- samples that fill their bytes start at bytes, as far apart as bytes
-whole-place : (g : Grid) (row column b r c : ℕ) → byteMultiple g ≡ true → place g row column b r c % 8 ≡ 0
-unfolding place
-whole-place g row column b r c e = rw e (omega arith)
-
-whole-stride : (g : Grid) → g .nbpp % 8 ≡ 0 → columnStride (g .imode) g % 8 ≡ 0
-whole-stride g e =
-    let h : columnStride (g .imode) g ≡ columnSteps (g .imode) g * (sampleBytes g * 8)
-    = stride-is (g .imode) g ∙ ap (λ (w : ℕ). columnSteps (g .imode) g * w) (whole-width g e) in
-    omega arith
-
-stride-le : (g : Grid) → Facts g → columnStride (g .imode) g ≤ 99_999 * 64
-stride-le g f =
-    let h : columnSteps (g .imode) g ≤ 99_999 = omega (arith, steps-le (g .imode) g (f .sides .bands-pos), f .sides .bands-le) in
-    omega (arith, stride-is (g .imode) g, prod-le (columnSteps (g .imode) g) (g .nbpp) 99_999 64 h (f .sides .nbpp-le))
 
 -- n samples of `size` bytes, from index `start` of the data on, put as `width` bits each, `step` bits apart from bit `at` on
 abbrev pub CanWrite : List ℕ → List ℕ → ℕ → ℕ → ℕ → ℕ → ℕ → ℕ → Type 0
