@@ -165,7 +165,7 @@ module _ (g : Grid) (n row column level : ℕ) (bs : Bands) (m : ℕ) where
 -- ---- the whole block
 
 -- the arm of the other modes is not that of S
-not-s : OneOf (0 ∷ 1 ∷ 2 ∷ []) (tagOf the-type S) → ⊥
+pub not-s : OneOf (0 ∷ 1 ∷ 2 ∷ []) (tagOf the-type S) → ⊥
 not-s h = ⊎-elim (λ e. omega arith) (λ h. ⊎-elim (λ e. omega arith) (λ e. omega arith) h) h
 
 -- B, P and R ask question 7 of the block's nominal end

@@ -1,0 +1,3 @@
+-- The laws of `exports`.
+pub mod Named
+pub mod Places

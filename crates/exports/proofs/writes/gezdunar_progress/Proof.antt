@@ -1,0 +1,39 @@
+-- `gezdunar_progress` meets its contract.
+-- Assumes nothing.
+use borrow.Author.Needs.{needs}
+use Rattle.exports.proofs.Named.{known, unknown}
+use Rattle.exports.proofs.writes.gezdunar_progress.Statement.{statement}
+use Rattle.exports.proofs.writes.gezdunar_progress.Tie as tie
+
+named-grid-requires : tie.Need-named-grid-requires
+named-grid-requires c κs = search needs
+
+enum-known-named : tie.Need-enum-known-named
+enum-known-named c = search needs
+
+progress-requires : tie.Need-progress-requires
+progress-requires c κs = search needs
+
+enum-told : tie.Need-enum-told
+enum-told c = search needs
+
+no-answer-requires : tie.Need-no-answer-requires
+no-answer-requires c κs = search needs
+
+returns : tie.Need-returns
+returns c = search (needs, known)
+
+returns-2 : tie.Need-returns-2
+returns-2 c = search (needs, unknown)
+
+pub gezdunar-progress-spec : {M : Type 1} → statement M
+gezdunar-progress-spec =
+    tie.close
+    (tie.spec
+    named-grid-requires
+    enum-known-named
+    progress-requires
+    enum-told
+    no-answer-requires
+    returns
+    returns-2)
