@@ -29,6 +29,18 @@
 extern "C" {
 #endif
 
+/* Sizes of a grid: bytes of a sample in lent data, of a band of a block, of a block, of the image; how many blocks the
+   picture has, and how many words their marks take. */
+struct gezdunar_sizes {
+    uint32_t number;
+    size_t sample_bytes;
+    size_t band_bytes;
+    size_t block_bytes;
+    size_t image_bytes;
+    size_t blocks;
+    size_t mark_words;
+};
+
 /* Shape of a read. */
 struct gezdunar_shape { uint32_t number; size_t bands; size_t rows; size_t columns; };
 
@@ -56,6 +68,12 @@ struct gezdunar_reordered { uint32_t number; size_t bands; size_t bytes; };
 /* Questions 1 to 4 of a grid.
    Numbers: 0 to 4, 99. */
 uint32_t gezdunar_grid_check(
+    uint32_t nrows, uint32_t ncols, uint32_t bands, uint32_t nbpp, uint8_t imode, uint32_t nppbh,
+    uint32_t nppbv, uint32_t nbpr, uint32_t nbpc);
+
+/* The sizes of an accepted grid; zeros beside a refusal.
+   Numbers: 0 to 4, 99. */
+struct gezdunar_sizes gezdunar_grid_sizes(
     uint32_t nrows, uint32_t ncols, uint32_t bands, uint32_t nbpp, uint8_t imode, uint32_t nppbh,
     uint32_t nppbv, uint32_t nbpr, uint32_t nbpc);
 

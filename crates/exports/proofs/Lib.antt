@@ -1,3 +1,4 @@
 -- The laws of `exports`.
+pub mod GridNumbers
 pub mod Named
 pub mod Places

@@ -6,13 +6,16 @@ use Rattle.grid.specs.declared.Grid.{Grid}
 use Rattle.grid.specs.declared.InterleaveMode.{InterleaveMode}
 use Rattle.grid.specs.declared.InterleaveMode.the-variants.{B, P, R, S}
 use Rattle.grid.specs.Questions.{pick}
-use Rattle.grid.specs.Sizes.{bandBytes, blockIndex}
+use Rattle.grid.specs.Sizes.{sampleBytes, bandBytes, blocks, imageBytes, blockIndex}
+use Rattle.grid.specs.Check.{gridNumber}
+use Rattle.marks.specs.Marks.{markWords}
 use Rattle.frame.specs.declared.Shape.{Shape}
 use Rattle.frame.specs.Reads.{wholeNumber}
 use Rattle.mask.specs.declared.ImageDataMask.{ImageDataMask}
 use Rattle.mask.specs.declared.Parsed.{Parsed}
 use Rattle.mask.specs.Mask.{noMask}
 use Rattle.exports.specs.declared.Place.{Place}
+use Rattle.exports.specs.declared.GridSizes.{GridSizes}
 use Rattle.exports.specs.declared.names.NamedMode.{NamedMode}
 use Rattle.exports.specs.declared.names.NamedMode.the-variants.{Mode, NoMode}
 use Rattle.exports.specs.declared.names.NamedGrid.{NamedGrid}
@@ -71,3 +74,23 @@ placeBy (suc n) g row column = record { number = suc n; start = 0; length = 0 }
 
 unfoldable pub wholePlace : Grid → ℕ → ℕ → ℕ → Place
 wholePlace g n row column = placeBy (wholeNumber g n row column) g row column
+
+-- the sizes of an accepted grid, in document 01's order: s, t, the block's, the image's, the blocks, the words for their marks
+abbrev pub noSizes : ℕ → GridSizes
+noSizes n = record { number = n; «sample_bytes» = 0; «band_bytes» = 0; «block_bytes» = 0; «image_bytes» = 0; blocks = 0; «mark_words» = 0 }
+
+abbrev pub sizesBy : ℕ → Grid → GridSizes
+sizesBy zero g =
+    record {
+      number = 0;
+      «sample_bytes» = sampleBytes g;
+      «band_bytes» = bandBytes g;
+      «block_bytes» = g .bands * bandBytes g;
+      «image_bytes» = imageBytes g;
+      blocks = blocks g;
+      «mark_words» = markWords (blocks g);
+    }
+sizesBy (suc n) g = noSizes (suc n)
+
+unfoldable pub sizesOf : Grid → GridSizes
+sizesOf g = sizesBy (gridNumber g) g

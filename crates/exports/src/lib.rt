@@ -4,6 +4,7 @@ mod masks;
 mod names;
 mod reads;
 mod reorderings;
+mod sizes;
 mod writes;
 
 // Where a part of the image lies, and the call's number.
@@ -12,4 +13,17 @@ pub struct Place {
     pub number: u32,
     pub start: usize,
     pub length: usize,
+}
+
+// Sizes of a grid, and its number: bytes of a sample in lent data, of a band of a block, of a block, of the image, the
+// blocks of the picture and the words for their marks.
+#[repr(C)]
+pub struct GridSizes {
+    pub number: u32,
+    pub sample_bytes: usize,
+    pub band_bytes: usize,
+    pub block_bytes: usize,
+    pub image_bytes: usize,
+    pub blocks: usize,
+    pub mark_words: usize,
 }
