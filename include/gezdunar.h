@@ -158,7 +158,7 @@ struct gezdunar_present gezdunar_has_block(
     uint8_t imode, uint32_t nppbh, uint32_t nppbv, uint32_t nbpr, uint32_t nbpc, uint32_t block_row,
     uint32_t block_col, uint32_t band);
 
-/* The offset in the record of a band of a block; none is given where there are no block records.
+/* The offset in the record of a band of a block; none is given for an empty block, nor where there are no block records.
    Lent: table. Numbers: 0 to 4, 6, 8, 16 to 19, 99. */
 struct gezdunar_block_offset gezdunar_get_block_offset(
     const uint8_t *table, size_t table_length, uint32_t nrows, uint32_t ncols, uint32_t bands, uint32_t nbpp,

@@ -1,23 +1,21 @@
 -- Rows of samples moved one by one, and what stands at the end.
 -- Assumes nothing.
-use Prim.Native.Nat.{ℕ, zero, suc, _+_, _*_, _^_, _≤_, _<_}
+use Prim.Native.Nat.{ℕ, _+_, _*_, _^_, _≤_, _<_}
 use mathlib.Core.Path.{_≡_, refl, sym, ap, ap₂, _∙_}
 use mathlib.Core.List.{List, _++_}
 use mathlib.Core.Logic.{_⊎_, inl, inr, ⊎-elim}
 use native.Mathlib.Omega.{arith}
 use native.Mathlib.Decide.{decLt}
-use native.Mathlib.Nat.{mod-eq-of-lt, add-zero, suc-mul, mul-comm}
-use native.Mathlib.Numerals.{add-one}
+use native.Mathlib.Nat.{mod-eq-of-lt, add-zero, mul-comm}
 use lib.ListN.{length, getD, take, drop, length-take, length-drop, take-append-drop}
 use lib.Seq.{ext-getD, getD-drop}
 use Rattle.bits.specs.Bits.{Bytes, bitsAt, beAt}
 use Rattle.bits.specs.Over.{over}
 use Rattle.bits.proofs.Bits.{within, next-sample, bitsAt-lt, bitsAt-ext, bitsAt-is}
 use Rattle.bits.proofs.Bytes.{bitsAt-bytes}
-use Rattle.bits.proofs.Over.{over-none}
 use Rattle.samples.specs.Samples.{values, spaced, sideBySide, putSpaced}
 use Rattle.samples.proofs.Samples.{values-ext, length-putSpaced, putSpaced-bytes, putSpaced-apart, putSpaced-hit}
-use Rattle.samples.proofs.Moves.{spaced-bytes, gathered-run, values-none, values-turn, put-turn}
+use Rattle.samples.proofs.Moves.{spaced-bytes, gathered-run, values-none, putSpaced-run}
 use Rattle.grid.specs.declared.InterleaveMode.{InterleaveMode}
 use Rattle.grid.specs.Layout.{ordinal}
 use Rattle.grid.proofs.Arith.{two}
@@ -55,16 +53,6 @@ whole-from-samples v s n xs ys e b fits at rest =
     kept = sym (take-append-drop (n * s) ys) ∙ ap (λ (a : List ℕ). take (n * s) ys ++ a) tail ∙ ap (λ (i : ℕ). take (n * s) ys ++ drop i xs) (sym len)
 
 -- ---- one row
-
--- samples put side by side are one run
-run-put : (w : ℕ → ℕ) (s p n : ℕ) (d : List ℕ) → Bytes d → p + n * s ≤ length d → over d p (values w s n) ≡ putSpaced w (8 * s) (8 * p) (8 * s) n d
-unfolding values putSpaced
-run-put w s p zero d b h = over-none d p
-run-put w s p (suc n) d b h =
-    let e : suc n * s ≡ n * s + s = suc-mul n s in
-    ap (λ (k : ℕ). over d p (values w s k)) (sym (add-one n))
-    ∙ put-turn w s p s d n b (omega arith) (run-put w s p n d b (omega arith)) refl (sym (values-turn w s d p n (omega arith) refl refl refl))
-    ∙ ap (λ (k : ℕ). putSpaced w (8 * s) (8 * p) (8 * s) k d) (add-one n)
 
 -- samples read at whole bytes
 spaced-at : (xs : List ℕ) (at step s k : ℕ) → Bytes xs → spaced xs (at * 8) (step * 8) (s * 8) k ≡ beAt xs (at + k * step) s
@@ -186,7 +174,7 @@ module _ (dat : List ℕ) (bs : Bands) (source target : Steps) (n v h s : ℕ) (
         moved-turn (spaced dat (at * 8) (source .column * 8) (s * 8)) b r (8 * to) (8 * s) (8 * s) bd room hb hr hh
         (ap (λ (i : ℕ). 8 * i) et) (ap (λ (i : ℕ). 8 * i) (sym ec)) refl
         (λ c l. spaced-at dat at (source .column) s c bd ∙ ap (λ (i : ℕ). beAt dat (i + c * source .column) s) (ea ∙ ap (λ (i : ℕ). i * source .band + r * source .row) ex))
-        (ez ∙ run-put (spaced dat (at * 8) (source .column * 8) (s * 8)) s to h ys (f .bytes)
+        (ez ∙ putSpaced-run (spaced dat (at * 8) (source .column * 8) (s * 8)) s to h ys (f .bytes)
         (omega (arith, f .same, row-end n v h s b r (target .band) (target .row) (target .column) ec (row-fits m n v h s b r (target .band) (target .row) (target .column) hb hr hh e))))
         f
 

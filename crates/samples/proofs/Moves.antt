@@ -143,7 +143,7 @@ gathered-run xs at s n d to b h ez =
     ez ∙ ap (over d to) (sym (side-by-side xs at s n b h) ∙ values-ext (sideBySide xs at s) (spaced xs (8 * at) (8 * s) (8 * s)) s n (λ k l. spaced-bytes xs at s s k b))
 
 -- samples put side by side are one run
-putSpaced-run : (v : ℕ → ℕ) (s at n : ℕ) (d : List ℕ) → Bytes d → at + n * s ≤ length d → over d at (values v s n) ≡ putSpaced v (8 * s) (8 * at) (8 * s) n d
+pub putSpaced-run : (v : ℕ → ℕ) (s at n : ℕ) (d : List ℕ) → Bytes d → at + n * s ≤ length d → over d at (values v s n) ≡ putSpaced v (8 * s) (8 * at) (8 * s) n d
 unfolding values putSpaced
 putSpaced-run v s at zero d b h = over-none d at
 putSpaced-run v s at (suc n) d b h =
