@@ -1,0 +1,416 @@
+//! The C boundary, as `include/gezdunar.h` declares it, and a safe function for each of its calls: slices cross as a
+//! pointer and a length, the grid as its nine numbers. All that is unsafe stands here.
+
+use crate::{Bands, Grid, ImageDataMask, InterleaveMode, Window};
+
+/// Sizes of a grid.
+#[repr(C)]
+pub(crate) struct Sizes {
+    pub number: u32,
+    pub sample_bytes: usize,
+    pub band_bytes: usize,
+    pub block_bytes: usize,
+    pub image_bytes: usize,
+    pub blocks: usize,
+    pub mark_words: usize,
+}
+
+/// Shape of a read.
+#[repr(C)]
+pub(crate) struct Shape {
+    pub number: u32,
+    pub bands: usize,
+    pub rows: usize,
+    pub columns: usize,
+}
+
+/// Part of the image, in bytes.
+#[repr(C)]
+pub(crate) struct Place {
+    pub number: u32,
+    pub start: usize,
+    pub length: usize,
+}
+
+/// Answer of a call on a frame.
+#[repr(C)]
+pub(crate) struct Answer {
+    pub number: u32,
+    pub first: usize,
+    pub second: usize,
+}
+
+/// Header of a mask table.
+#[repr(C)]
+pub(crate) struct Parsed {
+    pub number: u32,
+    pub mask: ImageDataMask,
+    pub used: usize,
+}
+
+#[repr(C)]
+pub(crate) struct Present {
+    pub number: u32,
+    pub present: bool,
+}
+
+#[repr(C)]
+pub(crate) struct BlockOffset {
+    pub number: u32,
+    pub given: bool,
+    pub offset: u32,
+}
+
+#[repr(C)]
+pub(crate) struct Written {
+    pub number: u32,
+    pub bytes: usize,
+}
+
+#[repr(C)]
+pub(crate) struct Reordered {
+    pub number: u32,
+    pub bands: usize,
+    pub bytes: usize,
+}
+
+#[rustfmt::skip]
+extern "C" {
+    fn gezdunar_grid_check(
+        nrows: u32, ncols: u32, bands: u32, nbpp: u32, imode: u8, nppbh: u32, nppbv: u32, nbpr: u32, nbpc: u32,
+    ) -> u32;
+
+    fn gezdunar_grid_sizes(
+        nrows: u32, ncols: u32, bands: u32, nbpp: u32, imode: u8, nppbh: u32, nppbv: u32, nbpr: u32, nbpc: u32,
+    ) -> Sizes;
+
+    fn gezdunar_decode_block(
+        image: *const u8, image_length: usize,
+        nrows: u32, ncols: u32, bands: u32, nbpp: u32, imode: u8, nppbh: u32, nppbv: u32, nbpr: u32, nbpc: u32,
+        block_row: u32, block_col: u32, resolution_level: u32,
+        all: bool, list: *const u32, list_length: usize, out: *mut u8, out_length: usize,
+    ) -> Shape;
+
+    fn gezdunar_whole_block(
+        image: *const u8, image_length: usize,
+        nrows: u32, ncols: u32, bands: u32, nbpp: u32, imode: u8, nppbh: u32, nppbv: u32, nbpr: u32, nbpc: u32,
+        block_row: u32, block_col: u32,
+    ) -> Place;
+
+    fn gezdunar_read_window(
+        image: *const u8, image_length: usize,
+        nrows: u32, ncols: u32, bands: u32, nbpp: u32, imode: u8, nppbh: u32, nppbv: u32, nbpr: u32, nbpc: u32,
+        row: u32, column: u32, rows: u32, columns: u32,
+        all: bool, list: *const u32, list_length: usize, out: *mut u8, out_length: usize,
+    ) -> Shape;
+
+    fn gezdunar_start(
+        image: *mut u8, image_length: usize, marks: *mut u64, marks_length: usize,
+        nrows: u32, ncols: u32, bands: u32, nbpp: u32, imode: u8, nppbh: u32, nppbv: u32, nbpr: u32, nbpc: u32,
+    ) -> Answer;
+
+    fn gezdunar_encode_block(
+        image: *mut u8, image_length: usize, marks: *mut u64, marks_length: usize,
+        nrows: u32, ncols: u32, bands: u32, nbpp: u32, imode: u8, nppbh: u32, nppbv: u32, nbpr: u32, nbpc: u32,
+        block_row: u32, block_col: u32, shape_bands: usize, shape_rows: usize, shape_columns: usize,
+        data: *const u8, data_length: usize,
+    ) -> Answer;
+
+    fn gezdunar_skip_block(
+        image: *const u8, image_length: usize, marks: *mut u64, marks_length: usize,
+        nrows: u32, ncols: u32, bands: u32, nbpp: u32, imode: u8, nppbh: u32, nppbv: u32, nbpr: u32, nbpc: u32,
+        block_row: u32, block_col: u32,
+    ) -> Answer;
+
+    fn gezdunar_progress(
+        marks: *const u64, marks_length: usize,
+        nrows: u32, ncols: u32, bands: u32, nbpp: u32, imode: u8, nppbh: u32, nppbv: u32, nbpr: u32, nbpc: u32,
+    ) -> Answer;
+
+    fn gezdunar_finalize(
+        image: *const u8, image_length: usize, marks: *const u64, marks_length: usize,
+        nrows: u32, ncols: u32, bands: u32, nbpp: u32, imode: u8, nppbh: u32, nppbv: u32, nbpr: u32, nbpc: u32,
+    ) -> Answer;
+
+    fn gezdunar_mask_parse(
+        table: *const u8, table_length: usize,
+        nrows: u32, ncols: u32, bands: u32, nbpp: u32, imode: u8, nppbh: u32, nppbv: u32, nbpr: u32, nbpc: u32,
+    ) -> Parsed;
+
+    fn gezdunar_mask_write(
+        nrows: u32, ncols: u32, bands: u32, nbpp: u32, imode: u8, nppbh: u32, nppbv: u32, nbpr: u32, nbpc: u32,
+        block_record_length: u16, pad_record_length: u16, code_length: u16, code: u32,
+        block_offsets: *const u32, block_offsets_length: usize, pad_offsets: *const u32, pad_offsets_length: usize,
+        out: *mut u8, out_length: usize,
+    ) -> Written;
+
+    fn gezdunar_has_block(
+        table: *const u8, table_length: usize,
+        nrows: u32, ncols: u32, bands: u32, nbpp: u32, imode: u8, nppbh: u32, nppbv: u32, nbpr: u32, nbpc: u32,
+        block_row: u32, block_col: u32, band: u32,
+    ) -> Present;
+
+    fn gezdunar_get_block_offset(
+        table: *const u8, table_length: usize,
+        nrows: u32, ncols: u32, bands: u32, nbpp: u32, imode: u8, nppbh: u32, nppbv: u32, nbpr: u32, nbpc: u32,
+        block_row: u32, block_col: u32, band: u32,
+    ) -> BlockOffset;
+
+    fn gezdunar_mask_from_marks(
+        marks: *const u64, marks_length: usize,
+        nrows: u32, ncols: u32, bands: u32, nbpp: u32, imode: u8, nppbh: u32, nppbv: u32, nbpr: u32, nbpc: u32,
+        out: *mut u32, out_length: usize,
+    ) -> Parsed;
+
+    fn gezdunar_to_band_sequential(
+        data: *const u8, data_length: usize,
+        imode: u8, nrows: u32, ncols: u32, nbands: u32, bytes_per_pixel: usize,
+        out: *mut u8, out_length: usize,
+    ) -> Reordered;
+
+    fn gezdunar_from_band_sequential(
+        data: *const u8, data_length: usize,
+        imode: u8, nrows: u32, ncols: u32, nbands: u32, bytes_per_pixel: usize,
+        out: *mut u8, out_length: usize,
+    ) -> Reordered;
+
+    fn gezdunar_fused_bip_to_bsq(
+        data: *const u8, data_length: usize,
+        nrows: u32, ncols: u32, nbands: u32, bytes_per_pixel: usize,
+        all: bool, list: *const u32, list_length: usize, out: *mut u8, out_length: usize,
+    ) -> Reordered;
+}
+
+/// The call of a function with the arguments before the grid, the grid's nine numbers and the arguments after it.
+macro_rules! on_grid {
+    ($function:ident, [$($before:expr),*], $grid:ident, [$($after:expr),*]) => {
+        $function(
+            $($before,)*
+            $grid.nrows,
+            $grid.ncols,
+            $grid.bands,
+            $grid.nbpp,
+            $grid.imode.letter(),
+            $grid.nppbh,
+            $grid.nppbv,
+            $grid.nbpr,
+            $grid.nbpc,
+            $($after,)*
+        )
+    };
+}
+
+pub(crate) fn grid_check(grid: &Grid) -> u32 {
+    // SAFETY: only numbers.
+    unsafe { on_grid!(gezdunar_grid_check, [], grid, []) }
+}
+
+pub(crate) fn grid_sizes(grid: &Grid) -> Sizes {
+    // SAFETY: only numbers.
+    unsafe { on_grid!(gezdunar_grid_sizes, [], grid, []) }
+}
+
+pub(crate) fn decode_block(
+    image: &[u8],
+    grid: &Grid,
+    block_row: u32,
+    block_col: u32,
+    resolution_level: u32,
+    bands: Bands<'_>,
+    out: &mut [u8],
+) -> Shape {
+    let (all, list) = bands.all_and_list();
+    let (list, list_length) = (list.as_ptr(), list.len());
+    let (out, out_length) = (out.as_mut_ptr(), out.len());
+    // SAFETY: borrowed slices.
+    unsafe {
+        on_grid!(
+            gezdunar_decode_block,
+            [image.as_ptr(), image.len()],
+            grid,
+            [block_row, block_col, resolution_level, all, list, list_length, out, out_length]
+        )
+    }
+}
+
+pub(crate) fn whole_block(image: &[u8], grid: &Grid, block_row: u32, block_col: u32) -> Place {
+    // SAFETY: borrowed slice.
+    unsafe { on_grid!(gezdunar_whole_block, [image.as_ptr(), image.len()], grid, [block_row, block_col]) }
+}
+
+pub(crate) fn read_window(image: &[u8], grid: &Grid, window: Window, bands: Bands<'_>, out: &mut [u8]) -> Shape {
+    let Window { row, column, rows, columns } = window;
+    let (all, list) = bands.all_and_list();
+    let (list, list_length) = (list.as_ptr(), list.len());
+    let (out, out_length) = (out.as_mut_ptr(), out.len());
+    // SAFETY: borrowed slices.
+    unsafe {
+        on_grid!(
+            gezdunar_read_window,
+            [image.as_ptr(), image.len()],
+            grid,
+            [row, column, rows, columns, all, list, list_length, out, out_length]
+        )
+    }
+}
+
+pub(crate) fn start(image: &mut [u8], marks: &mut [u64], grid: &Grid) -> Answer {
+    // SAFETY: borrowed slices.
+    unsafe { on_grid!(gezdunar_start, [image.as_mut_ptr(), image.len(), marks.as_mut_ptr(), marks.len()], grid, []) }
+}
+
+pub(crate) fn encode_block(
+    image: &mut [u8],
+    marks: &mut [u64],
+    grid: &Grid,
+    block_row: u32,
+    block_col: u32,
+    shape: crate::Shape,
+    data: &[u8],
+) -> Answer {
+    // SAFETY: borrowed slices.
+    unsafe {
+        on_grid!(
+            gezdunar_encode_block,
+            [image.as_mut_ptr(), image.len(), marks.as_mut_ptr(), marks.len()],
+            grid,
+            [block_row, block_col, shape.bands, shape.rows, shape.columns, data.as_ptr(), data.len()]
+        )
+    }
+}
+
+pub(crate) fn skip_block(image: &[u8], marks: &mut [u64], grid: &Grid, block_row: u32, block_col: u32) -> Answer {
+    // SAFETY: borrowed slices.
+    unsafe {
+        on_grid!(
+            gezdunar_skip_block,
+            [image.as_ptr(), image.len(), marks.as_mut_ptr(), marks.len()],
+            grid,
+            [block_row, block_col]
+        )
+    }
+}
+
+pub(crate) fn progress(marks: &[u64], grid: &Grid) -> Answer {
+    // SAFETY: borrowed slice.
+    unsafe { on_grid!(gezdunar_progress, [marks.as_ptr(), marks.len()], grid, []) }
+}
+
+pub(crate) fn finalize(image: &[u8], marks: &[u64], grid: &Grid) -> Answer {
+    // SAFETY: borrowed slices.
+    unsafe { on_grid!(gezdunar_finalize, [image.as_ptr(), image.len(), marks.as_ptr(), marks.len()], grid, []) }
+}
+
+pub(crate) fn mask_parse(table: &[u8], grid: &Grid) -> Parsed {
+    // SAFETY: borrowed slice.
+    unsafe { on_grid!(gezdunar_mask_parse, [table.as_ptr(), table.len()], grid, []) }
+}
+
+pub(crate) fn mask_write(
+    grid: &Grid,
+    mask: &ImageDataMask,
+    block_offsets: &[u32],
+    pad_offsets: &[u32],
+    out: &mut [u8],
+) -> Written {
+    let (out, out_length) = (out.as_mut_ptr(), out.len());
+    // SAFETY: borrowed slices.
+    unsafe {
+        on_grid!(
+            gezdunar_mask_write,
+            [],
+            grid,
+            [
+                mask.block_mask_record_length,
+                mask.pad_pixel_mask_record_length,
+                mask.pad_pixel_code_length,
+                mask.pad_pixel_code,
+                block_offsets.as_ptr(),
+                block_offsets.len(),
+                pad_offsets.as_ptr(),
+                pad_offsets.len(),
+                out,
+                out_length
+            ]
+        )
+    }
+}
+
+pub(crate) fn has_block(table: &[u8], grid: &Grid, block_row: u32, block_col: u32, band: u32) -> Present {
+    // SAFETY: borrowed slice.
+    unsafe { on_grid!(gezdunar_has_block, [table.as_ptr(), table.len()], grid, [block_row, block_col, band]) }
+}
+
+pub(crate) fn get_block_offset(table: &[u8], grid: &Grid, block_row: u32, block_col: u32, band: u32) -> BlockOffset {
+    // SAFETY: borrowed slice.
+    unsafe { on_grid!(gezdunar_get_block_offset, [table.as_ptr(), table.len()], grid, [block_row, block_col, band]) }
+}
+
+pub(crate) fn mask_from_marks(marks: &[u64], grid: &Grid, out: &mut [u32]) -> Parsed {
+    // SAFETY: borrowed slices.
+    unsafe { on_grid!(gezdunar_mask_from_marks, [marks.as_ptr(), marks.len()], grid, [out.as_mut_ptr(), out.len()]) }
+}
+
+pub(crate) fn to_band_sequential(
+    data: &[u8],
+    imode: InterleaveMode,
+    nrows: u32,
+    ncols: u32,
+    nbands: u32,
+    bytes_per_pixel: usize,
+    out: &mut [u8],
+) -> Reordered {
+    let (data, data_length) = (data.as_ptr(), data.len());
+    let (out, out_length) = (out.as_mut_ptr(), out.len());
+    let mode = imode.letter();
+    // SAFETY: borrowed slices.
+    unsafe {
+        gezdunar_to_band_sequential(data, data_length, mode, nrows, ncols, nbands, bytes_per_pixel, out, out_length)
+    }
+}
+
+pub(crate) fn from_band_sequential(
+    data: &[u8],
+    imode: InterleaveMode,
+    nrows: u32,
+    ncols: u32,
+    nbands: u32,
+    bytes_per_pixel: usize,
+    out: &mut [u8],
+) -> Reordered {
+    let (data, data_length) = (data.as_ptr(), data.len());
+    let (out, out_length) = (out.as_mut_ptr(), out.len());
+    let mode = imode.letter();
+    // SAFETY: borrowed slices.
+    unsafe {
+        gezdunar_from_band_sequential(data, data_length, mode, nrows, ncols, nbands, bytes_per_pixel, out, out_length)
+    }
+}
+
+pub(crate) fn fused_bip_to_bsq(
+    data: &[u8],
+    nrows: u32,
+    ncols: u32,
+    nbands: u32,
+    bytes_per_pixel: usize,
+    bands: Bands<'_>,
+    out: &mut [u8],
+) -> Reordered {
+    let (all, list) = bands.all_and_list();
+    // SAFETY: borrowed slices.
+    unsafe {
+        gezdunar_fused_bip_to_bsq(
+            data.as_ptr(),
+            data.len(),
+            nrows,
+            ncols,
+            nbands,
+            bytes_per_pixel,
+            all,
+            list.as_ptr(),
+            list.len(),
+            out.as_mut_ptr(),
+            out.len(),
+        )
+    }
+}

@@ -1,0 +1,165 @@
+//! The grid record and its sizes.
+
+use crate::boundary;
+use crate::refusal::accepted;
+use crate::{InterleaveMode, Refusal};
+
+/// A picture in blocks. The fields are named as in MIL-STD-2500C.
+#[derive(Debug, Clone, Copy, PartialEq, Eq, Hash)]
+pub struct Grid {
+    /// Rows of the picture.
+    pub nrows: u32,
+    /// Columns of the picture.
+    pub ncols: u32,
+    /// Bands of the picture.
+    pub bands: u32,
+    /// Bits of a sample.
+    pub nbpp: u32,
+    /// The order of the samples.
+    pub imode: InterleaveMode,
+    /// Columns of a block.
+    pub nppbh: u32,
+    /// Rows of a block.
+    pub nppbv: u32,
+    /// Blocks across.
+    pub nbpr: u32,
+    /// Blocks down.
+    pub nbpc: u32,
+}
+
+/// Sizes that follow from a grid.
+#[derive(Debug, Clone, Copy, PartialEq, Eq, Hash)]
+pub struct Sizes {
+    /// Bytes of a sample outside the image.
+    pub sample_bytes: usize,
+    /// Bytes of one band of a block.
+    pub band_bytes: usize,
+    /// Bytes of a block.
+    pub block_bytes: usize,
+    /// Bytes of the image.
+    pub image_bytes: usize,
+    /// Blocks of the picture.
+    pub blocks: usize,
+    /// 64-bit words that hold the marks.
+    pub mark_words: usize,
+}
+
+/// Counts of bands, rows and columns of samples outside the image.
+#[derive(Debug, Clone, Copy, PartialEq, Eq, Hash)]
+pub struct Shape {
+    /// Bands.
+    pub bands: usize,
+    /// Rows of each band.
+    pub rows: usize,
+    /// Columns of each row.
+    pub columns: usize,
+}
+
+/// A block's rows or columns inside the picture.
+fn actual(picture: u32, block: u32, index: u32) -> usize {
+    picture.saturating_sub(index.saturating_mul(block)).min(block) as usize
+}
+
+/// a / b, rounded up; 0 where b is 0.
+fn ceil_div(a: u32, b: u32) -> u32 {
+    match b {
+        0 => 0,
+        _ => a.div_ceil(b),
+    }
+}
+
+impl Grid {
+    /// A picture in blocks of `nppbv` rows and `nppbh` columns. NBPR and NBPC follow by rounding up; a block side of 0
+    /// gives 0 blocks. Nothing is refused here, see [`check`](Grid::check).
+    ///
+    /// ```
+    /// use gezdunar::{Grid, InterleaveMode};
+    /// let grid = Grid::new(3, 5, 2, 8, InterleaveMode::B, 4, 2);
+    /// assert_eq!((grid.nbpr, grid.nbpc), (2, 2));
+    /// ```
+    pub fn new(nrows: u32, ncols: u32, bands: u32, nbpp: u32, imode: InterleaveMode, nppbh: u32, nppbv: u32) -> Grid {
+        let nbpr = ceil_div(ncols, nppbh);
+        let nbpc = ceil_div(nrows, nppbv);
+        Grid { nrows, ncols, bands, nbpp, imode, nppbh, nppbv, nbpr, nbpc }
+    }
+
+    /// Questions 1 to 4. Numbers: 1 to 4.
+    ///
+    /// ```
+    /// use gezdunar::{Grid, InterleaveMode, Refusal};
+    /// let grid = Grid::new(3, 5, 2, 8, InterleaveMode::B, 4, 2);
+    /// assert_eq!(grid.check(), Ok(()));
+    /// assert_eq!(Grid { nbpr: 1, ..grid }.check(), Err(Refusal::BlockCounts));
+    /// ```
+    pub fn check(&self) -> Result<(), Refusal> {
+        accepted(boundary::grid_check(self))
+    }
+
+    /// The sizes of an accepted grid. Numbers: 1 to 4.
+    ///
+    /// ```
+    /// # fn main() -> Result<(), gezdunar::Refusal> {
+    /// use gezdunar::{Grid, InterleaveMode};
+    /// let sizes = Grid::new(3, 5, 2, 8, InterleaveMode::B, 4, 2).sizes()?;
+    /// assert_eq!((sizes.sample_bytes, sizes.band_bytes, sizes.block_bytes, sizes.image_bytes), (1, 8, 16, 64));
+    /// assert_eq!((sizes.blocks, sizes.mark_words), (4, 1));
+    /// # Ok(())
+    /// # }
+    /// ```
+    pub fn sizes(&self) -> Result<Sizes, Refusal> {
+        let answer = boundary::grid_sizes(self);
+        accepted(answer.number)?;
+        Ok(Sizes {
+            sample_bytes: answer.sample_bytes,
+            band_bytes: answer.band_bytes,
+            block_bytes: answer.block_bytes,
+            image_bytes: answer.image_bytes,
+            blocks: answer.blocks,
+            mark_words: answer.mark_words,
+        })
+    }
+
+    /// The rows inside the picture of the blocks in a row of blocks; 0 outside the picture.
+    ///
+    /// ```
+    /// use gezdunar::{Grid, InterleaveMode};
+    /// let grid = Grid::new(3, 5, 2, 8, InterleaveMode::B, 4, 2);
+    /// assert_eq!((grid.actual_rows(0), grid.actual_rows(1), grid.actual_rows(2)), (2, 1, 0));
+    /// ```
+    pub fn actual_rows(&self, block_row: u32) -> usize {
+        actual(self.nrows, self.nppbv, block_row)
+    }
+
+    /// The columns inside the picture of the blocks in a column of blocks; 0 outside the picture.
+    ///
+    /// ```
+    /// use gezdunar::{Grid, InterleaveMode};
+    /// let grid = Grid::new(3, 5, 2, 8, InterleaveMode::B, 4, 2);
+    /// assert_eq!((grid.actual_columns(0), grid.actual_columns(1), grid.actual_columns(2)), (4, 1, 0));
+    /// ```
+    pub fn actual_columns(&self, block_col: u32) -> usize {
+        actual(self.ncols, self.nppbh, block_col)
+    }
+
+    /// The shape of a block's samples: bands, actual rows, actual columns.
+    ///
+    /// ```
+    /// use gezdunar::{Grid, InterleaveMode, Shape};
+    /// let grid = Grid::new(3, 5, 2, 8, InterleaveMode::B, 4, 2);
+    /// assert_eq!(grid.block_shape(0, 1), Shape { bands: 2, rows: 2, columns: 1 });
+    /// ```
+    pub fn block_shape(&self, block_row: u32, block_col: u32) -> Shape {
+        Shape { bands: self.bands as usize, rows: self.actual_rows(block_row), columns: self.actual_columns(block_col) }
+    }
+}
+
+impl Shape {
+    /// How many bytes samples of this shape take at `sample_bytes` each; `usize::MAX` where that is more.
+    ///
+    /// ```
+    /// assert_eq!(gezdunar::Shape { bands: 2, rows: 3, columns: 4 }.bytes(2), 48);
+    /// ```
+    pub fn bytes(&self, sample_bytes: usize) -> usize {
+        self.bands.saturating_mul(self.rows).saturating_mul(self.columns).saturating_mul(sample_bytes)
+    }
+}

@@ -1,0 +1,157 @@
+//! The grid record, its check, its sizes and IMODE.
+
+mod common;
+
+use common::{refused_grids, small, WIDTHS};
+use gezdunar::{Grid, InterleaveMode, Refusal, Sizes};
+
+fn number(grid: Grid) -> u32 {
+    grid.check().map_or_else(Refusal::number, |()| 0)
+}
+
+#[test]
+fn block_counts_are_rounded_up() {
+    let grid = Grid::new(3, 5, 2, 8, InterleaveMode::R, 4, 2);
+    assert_eq!((grid.nbpr, grid.nbpc), (2, 2));
+    let grid = Grid::new(4, 8, 2, 8, InterleaveMode::R, 4, 2);
+    assert_eq!((grid.nbpr, grid.nbpc), (2, 2));
+    let grid = Grid::new(u32::MAX, u32::MAX, 1, 8, InterleaveMode::R, 1, u32::MAX);
+    assert_eq!((grid.nbpr, grid.nbpc), (u32::MAX, 1));
+}
+
+#[test]
+fn a_block_side_of_0_gives_0_blocks() {
+    let grid = Grid::new(3, 5, 2, 8, InterleaveMode::B, 0, 0);
+    assert_eq!((grid.nbpr, grid.nbpc, number(grid)), (0, 0, 1));
+}
+
+#[test]
+fn question_1() {
+    let grid = small(InterleaveMode::B);
+    for (limit, picture) in [(0, 1), (1, 3), (99_999_999, 3), (100_000_000, 1), (u32::MAX, 1)] {
+        assert_eq!(number(Grid { nrows: limit, ..grid }), picture);
+        assert_eq!(number(Grid { ncols: limit, ..grid }), picture);
+    }
+    for (limit, block) in [(0, 1), (1, 3), (8_192, 3), (8_193, 1), (u32::MAX, 1)] {
+        assert_eq!(number(Grid { nppbh: limit, ..grid }), block);
+        assert_eq!(number(Grid { nppbv: limit, ..grid }), block);
+    }
+    for (limit, bands) in [(0, 1), (1, 0), (99_999, 0), (100_000, 1), (u32::MAX, 1)] {
+        assert_eq!(number(Grid { bands: limit, ..grid }), bands);
+    }
+}
+
+#[test]
+fn question_2_at_every_width() {
+    for nbpp in (0..=70).chain([255, 256, 264, u32::MAX]) {
+        let expected = if WIDTHS.contains(&nbpp) { 0 } else { 2 };
+        assert_eq!(number(Grid { nbpp, ..small(InterleaveMode::B) }), expected, "NBPP {nbpp}");
+    }
+}
+
+#[test]
+fn question_3() {
+    let grid = small(InterleaveMode::B);
+    for wrong in [0, 1, 3, u32::MAX] {
+        assert_eq!(number(Grid { nbpr: wrong, ..grid }), 3);
+        assert_eq!(number(Grid { nbpc: wrong, ..grid }), 3);
+    }
+    assert_eq!(number(Grid::new(1, 9_999, 1, 8, InterleaveMode::B, 1, 1)), 0);
+    assert_eq!(number(Grid::new(1, 10_000, 1, 8, InterleaveMode::B, 1, 1)), 3);
+    assert_eq!(number(Grid::new(9_999, 1, 1, 8, InterleaveMode::B, 1, 1)), 0);
+    assert_eq!(number(Grid::new(10_000, 1, 1, 8, InterleaveMode::B, 1, 1)), 3);
+}
+
+#[test]
+fn question_4() {
+    // A band takes 65,537 bytes; with 65,535 bands the image has 4,294,967,295.
+    let grid = Grid::new(191, 2_745, 65_534, 1, InterleaveMode::B, 2_745, 191);
+    assert_eq!(grid.sizes().map(|sizes| sizes.image_bytes), Ok(65_537 * 65_534));
+    assert_eq!(number(Grid { bands: 65_535, ..grid }), 4);
+}
+
+#[test]
+fn questions_are_asked_in_order() {
+    let wrong = Grid { nrows: 0, nbpp: 17, nbpr: 9, ..small(InterleaveMode::B) };
+    assert_eq!(number(wrong), 1);
+    assert_eq!(number(Grid { nrows: 3, ..wrong }), 2);
+    assert_eq!(number(Grid { nrows: 3, nbpp: 8, ..wrong }), 3);
+}
+
+#[test]
+fn check_and_sizes_are_refused_alike() {
+    for (grid, number) in refused_grids() {
+        assert_eq!(grid.check().map_err(Refusal::number), Err(number));
+        assert_eq!(grid.sizes().map_err(Refusal::number), Err(number));
+    }
+}
+
+#[test]
+fn sizes_of_the_small_picture() {
+    for imode in InterleaveMode::ALL {
+        let sizes =
+            Sizes { sample_bytes: 1, band_bytes: 8, block_bytes: 16, image_bytes: 64, blocks: 4, mark_words: 1 };
+        assert_eq!(small(imode).sizes(), Ok(sizes));
+    }
+}
+
+#[test]
+fn sizes_at_every_width() {
+    for nbpp in WIDTHS {
+        let grid = Grid::new(5, 7, 3, nbpp, InterleaveMode::P, 3, 2);
+        let band_bytes = (6 * nbpp as usize).div_ceil(8);
+        let sizes = Sizes {
+            sample_bytes: (nbpp as usize).div_ceil(8),
+            band_bytes,
+            block_bytes: 3 * band_bytes,
+            image_bytes: 27 * band_bytes,
+            blocks: 9,
+            mark_words: 1,
+        };
+        assert_eq!(grid.sizes(), Ok(sizes));
+    }
+}
+
+#[test]
+fn words_for_the_marks() {
+    for (ncols, words) in [(1, 1), (63, 1), (64, 1), (65, 2), (128, 2), (129, 3), (9_999, 157)] {
+        let sizes = Grid::new(1, ncols, 1, 8, InterleaveMode::B, 1, 1).sizes();
+        assert_eq!(sizes.map(|sizes| (sizes.blocks, sizes.mark_words)), Ok((ncols as usize, words)));
+    }
+}
+
+#[test]
+fn actual_rows_and_columns_fill_the_picture() {
+    for side in 1..20 {
+        for block in 1..22 {
+            let grid = Grid::new(side, side, 1, 8, InterleaveMode::B, block, block);
+            assert_eq!((0..grid.nbpc).map(|row| grid.actual_rows(row)).sum::<usize>(), side as usize);
+            assert_eq!((0..grid.nbpr).map(|column| grid.actual_columns(column)).sum::<usize>(), side as usize);
+            assert_eq!((grid.actual_rows(grid.nbpc), grid.actual_columns(grid.nbpr)), (0, 0));
+        }
+    }
+}
+
+#[test]
+fn actual_rows_of_any_number() {
+    let grid = Grid::new(u32::MAX, u32::MAX, u32::MAX, u32::MAX, InterleaveMode::S, u32::MAX, u32::MAX);
+    assert_eq!(grid.actual_rows(0), u32::MAX as usize);
+    assert_eq!((grid.actual_rows(1), grid.actual_columns(u32::MAX)), (0, 0));
+    assert_eq!(grid.block_shape(0, 0).bytes(usize::MAX), usize::MAX);
+    assert_eq!(Grid { nppbv: 0, ..grid }.actual_rows(0), 0);
+}
+
+#[test]
+fn modes_and_their_letters() {
+    for (imode, letter) in InterleaveMode::ALL.into_iter().zip(["B", "P", "R", "S"]) {
+        assert_eq!(imode.to_string(), letter);
+        assert_eq!([imode.letter()], letter.as_bytes());
+        assert_eq!(letter.parse(), Ok(imode));
+        assert_eq!(InterleaveMode::from_letter(imode.letter()), Ok(imode));
+    }
+    let accepted = (0..=255).filter(|&byte| InterleaveMode::from_letter(byte).is_ok()).collect::<Vec<u8>>();
+    assert_eq!(accepted, b"BPRS");
+    for text in ["", "b", "BP", " B", "B ", "é", "Q"] {
+        assert_eq!(text.parse::<InterleaveMode>().map_err(Refusal::number), Err(99));
+    }
+}

@@ -1,0 +1,215 @@
+//! Start, write, skip, progress and finish over lent buffers.
+
+mod common;
+
+use common::{blocks, exact, refused_grids, shape, small};
+use gezdunar::{encode_block, finalize, progress, skip_block, start, Grid, InterleaveMode, Refusal, Shape};
+
+/// A started image and its marks, of exact size.
+fn started(grid: &Grid) -> (Box<[u8]>, Box<[u64]>) {
+    let sizes = grid.sizes().expect("an accepted grid");
+    let (mut image, mut marks) = (exact(&vec![0xFF; sizes.image_bytes]), exact(&vec![u64::MAX; sizes.mark_words]));
+    assert_eq!(start(&mut image, &mut marks, grid), Ok(()));
+    (image, marks)
+}
+
+#[test]
+fn start_clears_and_keeps_the_rest() {
+    for imode in InterleaveMode::ALL {
+        let (image, marks) = started(&small(imode));
+        assert!(image.iter().all(|&byte| byte == 0));
+        assert_eq!(*marks, [0]);
+        let (mut image, mut marks) = (exact(&[0xFF; 66]), exact(&[u64::MAX; 2]));
+        assert_eq!(start(&mut image, &mut marks, &small(imode)), Ok(()));
+        assert_eq!((&image[..64], &image[64..], &marks[..]), (&[0; 64][..], &[0xFF; 2][..], &[0, u64::MAX][..]));
+    }
+}
+
+#[test]
+fn start_refuses() {
+    let grid = small(InterleaveMode::B);
+    let more = [(grid, 63, 0, 11), (grid, 64, 0, 12), (grid, 0, 1, 11)];
+    let cases = refused_grids().into_iter().map(|(grid, number)| (grid, 64, 1, number)).chain(more);
+    for (grid, bytes, words, number) in cases {
+        let (mut image, mut marks) = (exact(&vec![7; bytes]), exact(&vec![7; words]));
+        assert_eq!(start(&mut image, &mut marks, &grid).map_err(Refusal::number), Err(number));
+        assert!(image.iter().all(|&byte| byte == 7) && marks.iter().all(|&word| word == 7));
+    }
+}
+
+/// Writes one block into a started frame of this grid and gives the image.
+fn image_of(grid: &Grid, block: (u32, u32), data: &[u8]) -> Box<[u8]> {
+    let (mut image, mut marks) = started(grid);
+    let data = exact(data);
+    let shape = grid.block_shape(block.0, block.1);
+    assert_eq!(encode_block(&mut image, &mut marks, grid, block.0, block.1, shape, &data), Ok(()));
+    assert_eq!(*marks, [1 << (block.0 * grid.nbpr + block.1)]);
+    image
+}
+
+#[test]
+fn figures_a_to_d_written() {
+    for (imode, places) in InterleaveMode::ALL.into_iter().zip([[48, 56], [48, 49], [48, 52], [24, 56]]) {
+        let mut expected = [0; 64];
+        (expected[places[0]], expected[places[1]]) = (0xA1, 0xA2);
+        assert_eq!(*image_of(&small(imode), (1, 1), &[0xA1, 0xA2]), expected);
+    }
+}
+
+#[test]
+fn figure_k() {
+    for imode in InterleaveMode::ALL {
+        let grid = Grid::new(1, 3, 1, 12, imode, 3, 1);
+        let data = [0x01, 0x23, 0x04, 0x56, 0x07, 0x89];
+        assert_eq!(*image_of(&grid, (0, 0), &data), [0x12, 0x34, 0x56, 0x78, 0x90]);
+        let grid = Grid::new(1, 1, 1, 12, imode, 1, 1);
+        assert_eq!(*image_of(&grid, (0, 0), &[0xF1, 0x23]), [0x12, 0x30]);
+    }
+}
+
+#[test]
+fn figure_l() {
+    for imode in InterleaveMode::ALL {
+        let grid = Grid::new(1, 10, 1, 1, imode, 10, 1);
+        assert_eq!(*image_of(&grid, (0, 0), &[1, 0, 1, 1, 0, 0, 0, 1, 1, 1]), [0xB1, 0xC0]);
+    }
+}
+
+#[test]
+fn figure_m() {
+    for imode in InterleaveMode::ALL {
+        let grid = Grid::new(2, 3, 1, 4, imode, 2, 2);
+        assert_eq!(*image_of(&grid, (0, 1), &[5, 9]), [0, 0, 0x59, 0]);
+    }
+}
+
+#[test]
+fn a_write_at_a_packed_width_clears_its_runs() {
+    let grid = Grid::new(2, 3, 1, 4, InterleaveMode::B, 2, 2);
+    let (mut image, mut marks) = (exact(&[0xFF; 4]), exact(&[0; 1]));
+    assert_eq!(encode_block(&mut image, &mut marks, &grid, 0, 1, shape(1, 2, 1), &[5, 9]), Ok(()));
+    assert_eq!(*image, [0xFF, 0xFF, 0x59, 0]);
+}
+
+#[test]
+fn a_write_at_bytes_touches_only_its_samples() {
+    let grid = Grid::new(2, 3, 1, 8, InterleaveMode::B, 2, 2);
+    let (mut image, mut marks) = (exact(&[0xFF; 8]), exact(&[0; 1]));
+    assert_eq!(encode_block(&mut image, &mut marks, &grid, 0, 1, shape(1, 2, 1), &[5, 9]), Ok(()));
+    assert_eq!(*image, [0xFF, 0xFF, 0xFF, 0xFF, 5, 0xFF, 9, 0xFF]);
+}
+
+#[test]
+fn a_write_keeps_the_rest_of_longer_buffers() {
+    let grid = small(InterleaveMode::R);
+    let (mut image, mut marks) = (exact(&[0xFF; 67]), exact(&[4, 77]));
+    assert_eq!(encode_block(&mut image, &mut marks, &grid, 1, 1, shape(2, 1, 1), &[1, 2]), Ok(()));
+    assert_eq!((image[48], image[52], &image[64..], &marks[..]), (1, 2, &[0xFF; 3][..], &[12, 77][..]));
+}
+
+/// The number of a write of block data into buffers that must be kept.
+fn refused(grid: &Grid, sizes: (usize, usize), block: (u32, u32), shape: Shape, length: usize) -> u32 {
+    let (mut image, mut marks) = (exact(&vec![7; sizes.0]), exact(&vec![6; sizes.1]));
+    let data = exact(&vec![1; length]);
+    let answer = encode_block(&mut image, &mut marks, grid, block.0, block.1, shape, &data);
+    assert!(image.iter().all(|&byte| byte == 7) && marks.iter().all(|&word| word == 6));
+    answer.map_or_else(Refusal::number, |()| 0)
+}
+
+#[test]
+fn encode_block_refuses() {
+    let (corner, enough) = (shape(2, 1, 1), (64, 1));
+    for (grid, number) in refused_grids() {
+        assert_eq!(refused(&grid, enough, (1, 1), corner, 2), number);
+    }
+    let grid = small(InterleaveMode::S);
+    assert_eq!(refused(&grid, (63, 1), (1, 1), corner, 2), 11);
+    assert_eq!(refused(&grid, (64, 0), (1, 1), corner, 2), 12);
+    for block in [(2, 1), (1, 2), (u32::MAX, u32::MAX)] {
+        assert_eq!(refused(&grid, enough, block, corner, 2), 6);
+    }
+    for other in [shape(1, 1, 1), shape(2, 2, 1), shape(2, 1, 4), shape(usize::MAX, 0, 0)] {
+        assert_eq!(refused(&grid, enough, (1, 1), other, 2), 13);
+    }
+    for length in [0, 1, 3] {
+        assert_eq!(refused(&grid, enough, (1, 1), corner, length), 14);
+    }
+}
+
+#[test]
+fn encode_block_asks_in_order() {
+    let (grid, other) = (small(InterleaveMode::B), shape(0, 0, 0));
+    assert_eq!(refused(&Grid { nbpc: 0, ..grid }, (0, 0), (9, 9), other, 0), 3);
+    assert_eq!(refused(&grid, (0, 0), (9, 9), other, 0), 11);
+    assert_eq!(refused(&grid, (64, 0), (9, 9), other, 0), 12);
+    assert_eq!(refused(&grid, (64, 1), (9, 9), other, 0), 6);
+    assert_eq!(refused(&grid, (64, 1), (0, 0), other, 0), 13);
+    assert_eq!(refused(&grid, (64, 1), (0, 0), shape(2, 2, 4), 0), 14);
+}
+
+#[test]
+fn skip_block_marks_and_keeps() {
+    let grid = Grid::new(1, 70, 1, 8, InterleaveMode::P, 1, 1);
+    let image = exact(&[9; 70]);
+    let mut marks = exact(&[0, 0, 5]);
+    for (column, expected) in [(0, [1, 0, 5]), (63, [1 | 1 << 63, 0, 5]), (64, [1 | 1 << 63, 1, 5])] {
+        assert_eq!(skip_block(&image, &mut marks, &grid, 0, column), Ok(()));
+        assert_eq!(*marks, expected);
+    }
+}
+
+#[test]
+fn skip_block_refuses() {
+    let grid = small(InterleaveMode::B);
+    let more =
+        [(grid, 63, 1, (9, 9), 11), (grid, 64, 0, (9, 9), 12), (grid, 64, 1, (2, 0), 6), (grid, 64, 1, (0, 2), 6)];
+    let cases = refused_grids().into_iter().map(|(grid, number)| (grid, 64, 1, (0, 0), number)).chain(more);
+    for (grid, bytes, words, (row, column), number) in cases {
+        let (image, mut marks) = (exact(&vec![7; bytes]), exact(&vec![6; words]));
+        assert_eq!(skip_block(&image, &mut marks, &grid, row, column).map_err(Refusal::number), Err(number));
+        assert!(marks.iter().all(|&word| word == 6));
+    }
+}
+
+#[test]
+fn progress_counts_the_marks_of_the_grid() {
+    let grid = Grid::new(1, 70, 1, 8, InterleaveMode::S, 1, 1);
+    for (marks, count) in [([0, 0], 0), ([u64::MAX, u64::MAX], 70), ([0b1011, 1 << 5], 4), ([0, 1 << 6], 0)] {
+        assert_eq!(progress(&exact(&marks), &grid), Ok(count));
+    }
+}
+
+#[test]
+fn progress_refuses() {
+    for (grid, number) in refused_grids() {
+        assert_eq!(progress(&exact(&[0]), &grid).map_err(Refusal::number), Err(number));
+    }
+    assert_eq!(progress(&[], &small(InterleaveMode::B)).map_err(Refusal::number), Err(12));
+}
+
+#[test]
+fn finalize_names_the_first_unmarked_block() {
+    let grid = small(InterleaveMode::P);
+    let image = exact(&[0; 64]);
+    for (index, (row, column)) in blocks(&grid).into_iter().enumerate() {
+        let below = exact(&[(1 << index) - 1]);
+        assert_eq!(finalize(&image, &below, &grid), Err(Refusal::UnmarkedBlock { row, column }));
+        let all_but_it = exact(&[!(1 << index)]);
+        assert_eq!(finalize(&image, &all_but_it, &grid), Err(Refusal::UnmarkedBlock { row, column }));
+    }
+    assert_eq!(finalize(&image, &exact(&[0b1111]), &grid), Ok(()));
+    let wide = Grid::new(2, 70, 1, 8, InterleaveMode::P, 1, 1);
+    let marks = exact(&[u64::MAX, u64::MAX, !(1 << 11)]);
+    assert_eq!(finalize(&exact(&[0; 140]), &marks, &wide), Err(Refusal::UnmarkedBlock { row: 1, column: 69 }));
+}
+
+#[test]
+fn finalize_refuses() {
+    for (grid, number) in refused_grids() {
+        assert_eq!(finalize(&exact(&[0; 64]), &exact(&[0]), &grid).map_err(Refusal::number), Err(number));
+    }
+    let grid = small(InterleaveMode::B);
+    assert_eq!(finalize(&exact(&[0; 63]), &[], &grid).map_err(Refusal::number), Err(11));
+    assert_eq!(finalize(&exact(&[0; 64]), &[], &grid).map_err(Refusal::number), Err(12));
+    assert_eq!(finalize(&exact(&[0; 64]), &exact(&[0]), &grid).map_err(Refusal::number), Err(15));
+}
