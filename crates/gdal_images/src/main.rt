@@ -5,34 +5,14 @@ mod header;
 use crate::header::grid_of;
 use crate::header::image_end;
 use crate::header::image_start;
-use frame::Shape;
 use grid::Grid;
-
-const OUT: i32 = 1;
-
-fn print_bytes(bytes: &[u8]) {
-    for i in 0..bytes.len() {
-        io::print_hex(OUT, bytes[i] as u64, 2);
-    }
-}
-
-fn print_number(n: u64) {
-    io::print_decimal(OUT, n);
-    io::write_all(OUT, b" ");
-}
-
-fn print_read(shape: Shape, out: &[u8]) {
-    print_number(shape.number as u64);
-    print_number(shape.bands as u64);
-    print_number(shape.rows as u64);
-    print_number(shape.columns as u64);
-    print_bytes(out);
-    io::write_all(OUT, b"\n");
-}
+use printing::print_number;
+use printing::print_read;
+use printing::print_text;
 
 // A block of at most 8 columns, 4 rows and 2 bands, with its shape.
 fn print_block(image: &[u8], grid: Grid, row: u32, column: u32) {
-    io::write_all(OUT, b"block ");
+    print_text(b"block ");
     print_number(row as u64);
     print_number(column as u64);
     let mut out = [0u8; 512];
@@ -55,7 +35,7 @@ fn print_blocks(image: &[u8], grid: Grid) {
 
 // A row of the picture, both bands, of at most 19 columns.
 fn print_row(image: &[u8], grid: Grid, row: u32) {
-    io::write_all(OUT, b"row ");
+    print_text(b"row ");
     print_number(row as u64);
     let mut out = [0u8; 304];
     let none: [u32; 0] = [];
@@ -73,7 +53,7 @@ fn print_rows(image: &[u8], grid: Grid) {
 fn print_image(image: &[u8], grid: Grid) {
     print_number(grid.check() as u64);
     print_number(image.len() as u64);
-    io::write_all(OUT, b"\n");
+    print_text(b"\n");
     print_blocks(image, grid);
     print_rows(image, grid);
 }
@@ -91,8 +71,8 @@ fn print_file(file: &[u8]) {
 }
 
 fn print_named(name: &[u8]) {
-    io::write_all(OUT, name);
-    io::write_all(OUT, b" ");
+    print_text(name);
+    print_text(b" ");
     let fd = os::open_read(name);
     if fd < 0 {
         os::fail(name);

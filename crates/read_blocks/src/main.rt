@@ -1,14 +1,14 @@
 // Reads every block of a small picture in every mode at eleven widths, then asks what document 01 makes of listed bands,
 // refusals and short files, and prints the answers. tools/expected_blocks.py works out what it must print.
-use frame::Shape;
 use grid::Grid;
 use grid::InterleaveMode;
-
-const OUT: i32 = 1;
+use printing::print_bytes;
+use printing::print_letter;
+use printing::print_number;
+use printing::print_read;
+use printing::print_text;
 
 const WIDTHS: [u32; 11] = [1, 4, 8, 11, 12, 16, 24, 31, 32, 40, 64];
-
-const LETTERS: [u8; 4] = [b'B', b'P', b'R', b'S'];
 
 fn mode(i: usize) -> InterleaveMode {
     match i {
@@ -33,32 +33,8 @@ fn fill(image: &mut [u8]) {
     }
 }
 
-fn print_bytes(bytes: &[u8]) {
-    for i in 0..bytes.len() {
-        io::print_hex(OUT, bytes[i] as u64, 2);
-    }
-}
-
-fn print_number(n: u64) {
-    io::print_decimal(OUT, n);
-    io::write_all(OUT, b" ");
-}
-
-fn print_read(shape: Shape, out: &[u8]) {
-    print_number(shape.number as u64);
-    print_number(shape.bands as u64);
-    print_number(shape.rows as u64);
-    print_number(shape.columns as u64);
-    print_bytes(out);
-    io::write_all(OUT, b"\n");
-}
-
 fn print_mode(i: usize, width: u32) {
-    if i < 4 {
-        let letter = [LETTERS[i]];
-        io::write_all(OUT, &letter);
-    }
-    io::write_all(OUT, b" ");
+    print_letter(i);
     print_number(width as u64);
 }
 
@@ -93,7 +69,7 @@ fn every_width(image: &[u8]) {
 
 // The lower right block in mode P.
 fn ask(label: &[u8], image: &[u8], width: u32, row: u32, level: u32, list: &[u32], out: &mut [u8]) {
-    io::write_all(OUT, label);
+    print_text(label);
     let shape = reading::decode_block(image, picture(1, width), row, 1, level, false, list, out);
     print_read(shape, out);
 }
@@ -132,7 +108,7 @@ fn ask_front(label: &[u8], image: &[u8], n: usize, width: u32) {
 }
 
 fn print_whole(image: &[u8], i: usize, row: u32, column: u32) {
-    io::write_all(OUT, b"whole ");
+    print_text(b"whole ");
     print_mode(i, 12);
     print_number(row as u64);
     print_number(column as u64);
@@ -140,7 +116,7 @@ fn print_whole(image: &[u8], i: usize, row: u32, column: u32) {
     print_number(reading::whole::whole_number(image, grid, row, column) as u64);
     let part = reading::whole::whole_block(image, grid, row, column);
     print_bytes(part);
-    io::write_all(OUT, b"\n");
+    print_text(b"\n");
 }
 
 // At 8 bits the block's last sample is byte 49; at 12 bits its last run ends with byte 95.

@@ -2,8 +2,10 @@
 // The orders are those of the module comment of the original's interleave.rs; tools/expected_reorderings.py has them too.
 use grid::InterleaveMode;
 use interleave::Reordered;
-
-const OUT: i32 = 1;
+use printing::print_bytes;
+use printing::print_letter;
+use printing::print_number;
+use printing::print_text;
 
 // The sample that stands at each place: R00, R01, R10, R11 are 0 to 3, G00 to G11 are 4 to 7, B00 to B11 are 8 to 11.
 const BY_BAND: [u8; 12] = [0, 1, 2, 3, 4, 5, 6, 7, 8, 9, 10, 11];
@@ -11,8 +13,6 @@ const BY_BAND: [u8; 12] = [0, 1, 2, 3, 4, 5, 6, 7, 8, 9, 10, 11];
 const BY_PIXEL: [u8; 12] = [0, 4, 8, 1, 5, 9, 2, 6, 10, 3, 7, 11];
 
 const BY_ROW: [u8; 12] = [0, 1, 4, 5, 8, 9, 2, 3, 6, 7, 10, 11];
-
-const LETTERS: [u8; 4] = [b'B', b'P', b'R', b'S'];
 
 fn mode(i: usize) -> InterleaveMode {
     match i {
@@ -45,29 +45,15 @@ fn arrange(data: &mut [u8], i: usize, size: usize) {
     }
 }
 
-fn print_bytes(bytes: &[u8]) {
-    for k in 0..bytes.len() {
-        io::print_hex(OUT, bytes[k] as u64, 2);
-    }
-}
-
 fn print_answer(label: &[u8], i: usize, size: usize, answer: Reordered, out: &[u8]) {
-    io::write_all(OUT, label);
-    if i < 4 {
-        let letter = [LETTERS[i]];
-        io::write_all(OUT, &letter);
-    }
-    io::write_all(OUT, b" ");
-    io::print_decimal(OUT, size as u64);
-    io::write_all(OUT, b" ");
-    io::print_decimal(OUT, answer.number as u64);
-    io::write_all(OUT, b" ");
-    io::print_decimal(OUT, answer.bands as u64);
-    io::write_all(OUT, b" ");
-    io::print_decimal(OUT, answer.bytes as u64);
-    io::write_all(OUT, b" ");
+    print_text(label);
+    print_letter(i);
+    print_number(size as u64);
+    print_number(answer.number as u64);
+    print_number(answer.bands as u64);
+    print_number(answer.bytes as u64);
     print_bytes(out);
-    io::write_all(OUT, b"\n");
+    print_text(b"\n");
 }
 
 fn to_bands(data: &[u8], i: usize, size: usize) {

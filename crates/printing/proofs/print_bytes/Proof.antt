@@ -1,10 +1,10 @@
 -- `print_bytes` reads inside its slice and ends.
 -- Assumes nothing.
-use Prim.Native.Nat.{_+_, _-_, _≤_}
+use Prim.Native.Nat.{_-_, _≤_}
 use native.Mathlib.Omega.{arith}
 use borrow.Author.Needs.{needs}
-use Rattle.read_blocks.proofs.print_bytes.Statement.{statement}
-use Rattle.read_blocks.proofs.print_bytes.Tie as tie
+use Rattle.printing.proofs.print_bytes.Statement.{statement}
+use Rattle.printing.proofs.print_bytes.Tie as tie
 
 abbrev Inv-loop : tie.InvT-loop
 Inv-loop bytes i₀ i-end i = i ≤ i-end
