@@ -1,0 +1,2 @@
+pub mod Method
+pub mod Walks

@@ -1,0 +1,102 @@
+// A reader holds the image slice and its grid together. Each of its calls asks all the questions of the entry point that it
+// stands over, 1 to 4 about the grid first, so a reader of a refused grid refuses every read. `check` tells the grid's number.
+ghost use mathlib.Core.Path.{_≡_};
+ghost use Rattle.grid.specs.Check.{gridNumber};
+ghost use Rattle.grid.specs.Bands.{bandsOf};
+ghost use Rattle.frame.specs.Reads.{blockRead, wholeBlock, window, Filled};
+ghost use Rattle.windows.specs.Windows.{rectangle};
+use frame::Shape;
+use grid::Grid;
+
+pub struct Reader<'a> {
+    image: &'a [u8],
+    grid: Grid,
+}
+
+impl<'a> Reader<'a> {
+    pub fn new(image: &'a [u8], grid: Grid) -> Reader<'a>
+        ensures { λ r. ⌜ r ≡ record { image = image .entry; grid = grid } ⌝ }
+    {
+        Reader { image, grid }
+    }
+
+    // The number of the grid: that of the first "no" of questions 1 to 4, or 0.
+    pub fn check(self) -> u32
+        ensures { λ r. ⌜ r ≡ gridNumber (self .entry .grid) ⌝ }
+    {
+        self.grid.check()
+    }
+
+    // The samples of a block, as `reading::decode_block` gives them.
+    pub fn decode_block(
+        self,
+        block_row: u32,
+        block_col: u32,
+        resolution_level: u32,
+        all: bool,
+        bands: &[u32],
+        out: &mut [u8],
+    ) -> Shape
+        ensures { λ r. ⌜ _≡_ {A = Filled} (record { shape = r; out = now (out .exit) }) (blockRead (self .entry .grid) (now (self .entry .image)) «block_row» «block_col» «resolution_level» (bandsOf all (now (bands .entry))) (now (out .entry))) ⌝ }
+    {
+        reading::decode_block(
+            self.image,
+            self.grid,
+            block_row,
+            block_col,
+            resolution_level,
+            all,
+            bands,
+            out,
+        )
+    }
+
+    // The samples of a rectangle of the picture, as `windows::read_window` gives them.
+    pub fn read_window(
+        self,
+        row: u32,
+        column: u32,
+        rows: u32,
+        columns: u32,
+        all: bool,
+        bands: &[u32],
+        out: &mut [u8],
+    ) -> Shape
+        ensures { λ r. ⌜ _≡_ {A = Filled} (record { shape = r; out = now (out .exit) }) (window (self .entry .grid) (now (self .entry .image)) (rectangle row column rows columns (bandsOf all (now (bands .entry)))) (now (out .entry))) ⌝ }
+    {
+        windows::read_window(
+            self.image,
+            self.grid,
+            row,
+            column,
+            rows,
+            columns,
+            all,
+            bands,
+            out,
+        )
+    }
+
+    // The bytes of the whole nominal block, as a part of the image.
+    pub fn whole_block(self, block_row: u32, block_col: u32) -> &'a [u8]
+        ensures { λ r. ⌜ now r ≡ wholeBlock (self .entry .grid) (now (self .entry .image)) «block_row» «block_col» ⌝ }
+    {
+        reading::whole::whole_block(self.image, self.grid, block_row, block_col)
+    }
+}
+
+// A block read by a reader that is made for it. Who calls it has slices and numbers, and no reader.
+pub fn read_block(
+    image: &[u8],
+    grid: Grid,
+    block_row: u32,
+    block_col: u32,
+    resolution_level: u32,
+    all: bool,
+    bands: &[u32],
+    out: &mut [u8],
+) -> Shape
+    ensures { λ r. ⌜ _≡_ {A = Filled} (record { shape = r; out = now (out .exit) }) (blockRead grid (now (image .entry)) «block_row» «block_col» «resolution_level» (bandsOf all (now (bands .entry))) (now (out .entry))) ⌝ }
+{
+    Reader::new(image, grid).decode_block(block_row, block_col, resolution_level, all, bands, out)
+}
