@@ -1,6 +1,6 @@
 //! A case is one call, or for a frame a list of calls, with everything that it is handed.
 
-use crate::{Grid, Mode};
+use crate::{Grid, Lent, Mode};
 
 #[derive(Clone, Debug, PartialEq)]
 pub enum Case {
@@ -74,6 +74,11 @@ pub enum Case {
         tile: u32,
         parallel: bool,
     },
+    /// One of the others, with lent buffers of these lengths.
+    Lent {
+        case: Box<Case>,
+        lent: Lent,
+    },
 }
 
 #[derive(Clone, Debug, PartialEq)]
@@ -128,7 +133,8 @@ pub struct Pack {
 /// | reorderings | none | samples |
 ///
 /// In a frame the two values are the count for progress, and row and column for a finish with 15.
-/// Words are big-endian.
+/// Words are big-endian. The samples, tables and words are the lent output, the image and the mark words
+/// the lent buffers: whole, as the calls left them.
 #[derive(Clone, Debug, Default, PartialEq)]
 pub struct Answer {
     pub number: u8,
@@ -212,6 +218,15 @@ impl Case {
             Case::ToSequential { .. } => Kind::ToSequential,
             Case::FromSequential { .. } => Kind::FromSequential,
             Case::Select { .. } => Kind::Select,
+            Case::Lent { case, .. } => case.kind(),
+        }
+    }
+
+    /// The case without the lengths of its lent buffers.
+    pub fn call(&self) -> &Case {
+        match self {
+            Case::Lent { case, .. } => case,
+            case => case,
         }
     }
 }

@@ -16,7 +16,7 @@ impl Tally {
 
     /// Counts a case, or for a frame its start and each of its calls.
     fn case(&mut self, case: &Case, answer: &Answer) {
-        if let Case::Frame { calls, .. } = case {
+        if let Case::Frame { calls, .. } = case.call() {
             self.count("start", answer.number);
             for (call, values) in calls.iter().zip(answer.values.chunks(3)) {
                 self.count(call.name(), values[0] as u8);
@@ -29,59 +29,98 @@ impl Tally {
     pub fn accepted(&self) -> u64 {
         self.0.values().filter_map(|numbers| numbers.get(&0)).sum()
     }
+
+    pub fn refused(&self) -> u64 {
+        self.0.values().flat_map(BTreeMap::values).sum::<u64>() - self.accepted()
+    }
 }
 
 impl fmt::Display for Tally {
     fn fmt(&self, f: &mut fmt::Formatter<'_>) -> fmt::Result {
-        let mut refused = 0;
         for (name, numbers) in &self.0 {
             write!(f, "{name:26}{:9} accepted", numbers.get(&0).unwrap_or(&0))?;
             for (number, count) in numbers.iter().filter(|(&number, _)| number != 0) {
                 write!(f, ", {count} refused with {number}")?;
-                refused += count;
             }
             writeln!(f)?;
         }
-        writeln!(f, "{:26}{:9} accepted, {refused} refused", "in all", self.accepted())
+        let (accepted, refused) = (self.accepted(), self.refused());
+        writeln!(f, "{:26}{accepted:9} accepted, {refused} refused", "in all")
     }
 }
 
-/// A case on which the sides differ.
+type Answers = dyn Fn(&Case) -> Option<Answer>;
+
+/// One side of a comparison. It may have no answer to some cases.
+pub struct Side {
+    name: &'static str,
+    answer: Box<Answers>,
+}
+
+impl Side {
+    pub fn new(name: &'static str, answer: impl Fn(&Case) -> Option<Answer> + 'static) -> Side {
+        Side { name, answer: Box::new(answer) }
+    }
+}
+
+/// A case on which the sides differ, and each side's name and answer.
 #[derive(Debug)]
 pub struct Difference {
     pub case: Case,
-    pub tested: Answer,
-    pub expected: Answer,
+    pub answers: [(&'static str, Answer); 2],
 }
 
-/// Two sides. The tested one has no answer to some cases; these are left out.
-pub struct Comparison<T, E> {
-    pub tested: T,
-    pub expected: E,
+impl fmt::Display for Difference {
+    fn fmt(&self, f: &mut fmt::Formatter<'_>) -> fmt::Result {
+        write!(f, "a difference: {:?}", self.case)?;
+        self.answers.iter().try_for_each(|(name, answer)| write!(f, "\n{name}: {answer:?}"))
+    }
+}
+
+/// Two sides. A case to which one of them has no answer is left out.
+pub struct Comparison {
+    sides: [Side; 2],
     pub tally: Tally,
 }
 
-impl<T: Fn(&Case) -> Option<Answer>, E: Fn(&Case) -> Answer> Comparison<T, E> {
-    pub fn new(tested: T, expected: E) -> Self {
-        Comparison { tested, expected, tally: Tally::default() }
+impl Comparison {
+    pub fn new(sides: [Side; 2]) -> Comparison {
+        Comparison { sides, tally: Tally::default() }
     }
 
-    fn difference(&self, case: &Case) -> Option<Difference> {
-        let (tested, expected) = ((self.tested)(case)?, (self.expected)(case));
-        (tested != expected).then(|| Difference { case: case.clone(), tested, expected })
+    fn answers(&self, case: &Case) -> Option<[(&'static str, Answer); 2]> {
+        let [first, second] = &self.sides;
+        Some([(first.name, (first.answer)(case)?), (second.name, (second.answer)(case)?)])
+    }
+
+    fn difference(&self, case: &Case) -> Option<Box<Difference>> {
+        let answers = self.answers(case)?;
+        let differ = answers[0].1 != answers[1].1;
+        differ.then(|| Box::new(Difference { case: case.clone(), answers }))
     }
 
     /// One case. A difference is given as it is.
     pub fn case(&mut self, case: &Case) -> Result<(), Box<Difference>> {
-        let Some(tested) = (self.tested)(case) else {
+        let Some(answers) = self.answers(case) else {
             return Ok(());
         };
-        let expected = (self.expected)(case);
-        self.tally.case(case, &expected);
-        if tested == expected {
-            return Ok(());
+        if answers[0].1 != answers[1].1 {
+            return Err(Box::new(Difference { case: case.clone(), answers }));
         }
-        Err(Box::new(Difference { case: case.clone(), tested, expected }))
+        self.tally.case(case, &answers[0].1);
+        Ok(())
+    }
+
+    /// A case whose answer is known.
+    pub fn known(&mut self, case: &Case, answer: &Answer) -> Result<(), Box<Difference>> {
+        self.case(case)?;
+        match self.answers(case) {
+            Some([first, _]) if first.1 != *answer => {
+                let answers = [first, ("known", answer.clone())];
+                Err(Box::new(Difference { case: case.clone(), answers }))
+            }
+            _ => Ok(()),
+        }
     }
 
     /// One case from a source. A difference is given on the smallest case found.
@@ -97,7 +136,7 @@ impl<T: Fn(&Case) -> Option<Answer>, E: Fn(&Case) -> Answer> Comparison<T, E> {
         self.case(&case).map_err(|_| {
             let differs = |case: &Case| self.difference(case).is_some();
             let smallest = shrink(kind, size, from.taken(), differs);
-            Box::new(self.difference(&smallest).expect("the smallest case shows it too"))
+            self.difference(&smallest).expect("the smallest case shows it too")
         })
     }
 }

@@ -2,6 +2,7 @@
 
 mod frame;
 mod mask;
+mod outside;
 mod reorder;
 
 use crate::model::layout;
@@ -24,6 +25,8 @@ pub struct Size {
     pub refusals: bool,
     /// Data bytes are choices, so that an enumeration goes over all of them.
     pub every_byte: bool,
+    /// Some cases are changed so that they may leave the compared domain.
+    pub outside: bool,
     pub mode: Option<Mode>,
     pub width: Option<u32>,
 }
@@ -41,6 +44,11 @@ pub enum Lengths {
 
 /// A case of a kind, or none if its image is above the size.
 pub fn generate(kind: Kind, from: &mut Source, size: &Size) -> Option<Case> {
+    let case = compared(kind, from, size)?;
+    Some(if size.outside { outside::changed(case, from) } else { case })
+}
+
+fn compared(kind: Kind, from: &mut Source, size: &Size) -> Option<Case> {
     match kind {
         Kind::ToSequential => Some(reorder::sequential(from, size, true)),
         Kind::FromSequential => Some(reorder::sequential(from, size, false)),

@@ -12,4 +12,4 @@ pub mod questions;
 pub mod read;
 pub mod reorder;
 
-pub use answer::answer;
+pub use answer::{answer, lent_answer};

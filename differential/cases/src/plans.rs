@@ -21,9 +21,15 @@ pub fn random_size() -> Size {
         lengths: Lengths::Mixed,
         refusals: true,
         every_byte: false,
+        outside: false,
         mode: None,
         width: None,
     }
+}
+
+/// Random cases of which some lie outside the compared domain.
+pub fn outside_size() -> Size {
+    Size { outside: true, ..random_size() }
 }
 
 /// The enumerations. Data is random, but for the plans that say otherwise.

@@ -1,7 +1,7 @@
 //! The model against document 01's figures, and at the limits that the figures leave out.
 
 use cases::model::{answer, frame, mask, questions, read, reorder};
-use cases::{figures, Area, Grid, Header, Mode, Pack, WIDTHS};
+use cases::{figures, outside, Area, Case, Grid, Header, Lent, Mode, Pack, WIDTHS};
 
 #[test]
 fn figures_hold() {
@@ -97,4 +97,40 @@ fn reordering_questions() {
     let none = Pack { rows: u32::MAX, columns: u32::MAX, bands: 0, ..pack };
     assert_eq!(reorder::from_sequential(&none, &[], &mut []), 0);
     assert_eq!(reorder::select(&pack, &[1], Some(&[1]), &mut []), 8);
+}
+
+#[test]
+fn lent_lengths() {
+    let grid = Grid::new([1, 2], 1, 16, Mode::B, [1, 2]);
+    let image = vec![1, 2, 3, 4];
+    let case = Case::Read { grid, image, row: 0, column: 0, level: 0, bands: None };
+    let of = |output| {
+        let lent = Lent { output, ..Lent::default() };
+        answer(&Case::Lent { case: Box::new(case.clone()), lent })
+    };
+    assert_eq!(Lent::of(&case).output, 4);
+    assert_eq!((of(4).number, of(4).bytes), (0, vec![1, 2, 3, 4]));
+    // A longer output keeps its surplus, a shorter one all that it held.
+    assert_eq!((of(5).number, of(5).bytes), (0, vec![1, 2, 3, 4, 0xa5]));
+    assert_eq!((of(3).number, of(3).bytes), (9, vec![0xa5; 3]));
+    let refused = Case::Read { grid, image: vec![], row: 0, column: 0, level: 0, bands: None };
+    assert_eq!(Lent::of(&refused).output, 0);
+}
+
+/// Every number of document 01 is reached, but for 5 and 13, which the original gives too.
+#[test]
+fn outside_reaches() {
+    let mut numbers = [false; 256];
+    for (_, cases) in outside() {
+        for case in cases {
+            let answer = answer(&case);
+            numbers[usize::from(answer.number)] = true;
+            if let Case::Frame { .. } = case.call() {
+                answer.values.chunks(3).for_each(|call| numbers[call[0] as usize] = true);
+            }
+        }
+    }
+    let missing: Vec<usize> = (0..=22).filter(|&number| !numbers[number]).collect();
+    assert_eq!(missing, [5, 13]);
+    assert!(numbers[23..].iter().all(|&reached| !reached));
 }

@@ -1,10 +1,12 @@
 //! A side that is wrong is found, and the case that shows it is small.
 
-use cases::{model, random_size, Answer, Case, Comparison, Difference, Kind, Mode, Source};
+use cases::{model, random_size, Answer, Case, Comparison, Difference, Kind, Mode, Side, Source};
 
 /// The smallest case found that shows a difference from the model.
-fn found(kind: Kind, wrong: impl Fn(&Case) -> Answer) -> Box<Difference> {
-    let mut comparison = Comparison::new(|case: &Case| Some(wrong(case)), model::answer);
+fn found(kind: Kind, wrong: impl Fn(&Case) -> Answer + 'static) -> Box<Difference> {
+    let wrong = Side::new("wrong", move |case| Some(wrong(case)));
+    let model = Side::new("model", |case| Some(model::answer(case)));
+    let mut comparison = Comparison::new([wrong, model]);
     let mut from = Source::random(1);
     for _ in 0..10_000 {
         if let Err(difference) = comparison.drawn(kind, &mut from, &random_size()) {

@@ -23,7 +23,7 @@ use refusal::guarded;
 
 pub use answer::answer;
 pub use jbp::image::mask::ImageDataMask;
-pub use refusal::Refusal;
+pub use refusal::{silence_panics, Refusal};
 
 fn imode(mode: Mode) -> InterleaveMode {
     match mode {

@@ -1,7 +1,8 @@
 //! What the original says when it does not answer.
 
+use std::cell::Cell;
 use std::fmt;
-use std::panic::{catch_unwind, AssertUnwindSafe};
+use std::panic::{catch_unwind, set_hook, take_hook, AssertUnwindSafe};
 
 use crate::error::CodecError;
 
@@ -19,9 +20,27 @@ pub enum Refusal {
     Panic(String),
 }
 
+thread_local! {
+    /// Is a part of the original running?
+    static GUARDED: Cell<bool> = const { Cell::new(false) };
+}
+
+/// Keeps the original's panics from being printed: they are answers.
+pub fn silence_panics() {
+    let print = take_hook();
+    set_hook(Box::new(move |panic| {
+        if !GUARDED.get() {
+            print(panic);
+        }
+    }));
+}
+
 /// Runs a part of the original, with its panics caught.
 pub(crate) fn guarded<T>(work: impl FnOnce() -> Result<T, CodecError>) -> Result<T, Refusal> {
-    match catch_unwind(AssertUnwindSafe(work)) {
+    GUARDED.set(true);
+    let caught = catch_unwind(AssertUnwindSafe(work));
+    GUARDED.set(false);
+    match caught {
         Ok(answer) => answer.map_err(Refusal::from),
         Err(payload) => {
             let text = payload.downcast_ref::<&str>().map(|text| text.to_string());

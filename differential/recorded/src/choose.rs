@@ -14,6 +14,7 @@ fn small() -> Size {
         lengths: Lengths::Mixed,
         refusals: true,
         every_byte: false,
+        outside: false,
         mode: None,
         width: None,
     }
@@ -31,6 +32,7 @@ fn grid(case: &Case) -> Option<&Grid> {
         | Case::Lookup { grid, .. }
         | Case::FromMarks { grid, .. } => Some(grid),
         Case::ToSequential { .. } | Case::FromSequential { .. } | Case::Select { .. } => None,
+        Case::Lent { case, .. } => grid(case),
     }
 }
 

@@ -18,7 +18,7 @@ fn code_bytes(h: &Header) -> u64 {
 }
 
 /// The bytes of a table with this header.
-fn table_bytes(g: &Grid, h: &Header) -> u64 {
+pub fn table_bytes(g: &Grid, h: &Header) -> u64 {
     let record = u64::from(h.block_length) + u64::from(h.pad_length);
     10 + code_bytes(h) + records(g) * record
 }
