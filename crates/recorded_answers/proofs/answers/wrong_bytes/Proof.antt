@@ -1,0 +1,36 @@
+-- `wrong_bytes` ends.
+-- Assumes nothing.
+use Prim.Native.Nat.{_-_, _≤_}
+use native.Mathlib.Omega.{arith}
+use borrow.Author.Needs.{needs}
+use Rattle.recorded_answers.proofs.answers.wrong_bytes.Statement.{statement}
+use Rattle.recorded_answers.proofs.answers.wrong_bytes.Tie as tie
+
+abbrev Inv-loop : tie.InvT-loop
+Inv-loop output given wrong₀ i₀ i-end wrong i = i ≤ i-end
+
+abbrev μ-loop : tie.MeasureT-loop
+μ-loop output given wrong₀ i₀ i-end wrong i = i-end - i
+
+loop-holds : tie.Need-loop-holds Inv-loop μ-loop
+loop-holds c = omega arith
+
+with-byte-requires : tie.Need-with-byte-requires Inv-loop μ-loop
+with-byte-requires c κs = search needs
+
+add-i : tie.Need-add-i Inv-loop μ-loop
+add-i c = omega arith
+
+loop-less : tie.Need-loop-less Inv-loop μ-loop
+loop-less c = omega arith
+
+loop-again : tie.Need-loop-again Inv-loop μ-loop
+loop-again c = omega arith
+
+returns : tie.Need-returns Inv-loop μ-loop
+returns c = search needs
+
+pub wrong-bytes-spec : {M : Type 1} → statement M
+wrong-bytes-spec =
+    tie.close
+    (tie.spec Inv-loop μ-loop loop-holds with-byte-requires add-i loop-less loop-again returns)
