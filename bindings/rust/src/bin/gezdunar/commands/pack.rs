@@ -1,0 +1,200 @@
+//! A picture's samples, written into an image.
+
+use super::Command;
+use crate::arguments::{optional, pair, repeated, required, Given, Known};
+use crate::failure::Failure;
+use crate::files;
+use crate::output::Output;
+use crate::picture::{self, Picture};
+use crate::progress::Progress;
+use crate::words::count;
+use gezdunar::{Frame, Refusal};
+use std::collections::BTreeSet;
+use std::fs::File;
+use std::io::{Read, Seek, SeekFrom};
+use std::path::{Path, PathBuf};
+
+pub const COMMAND: Command = Command {
+    name: "pack",
+    summary: "writes a picture's samples into a blocked image",
+    help: &[HEAD, picture::HELP, TAIL],
+    options: &[&OPTIONS, &picture::OPTIONS],
+    run,
+};
+
+const OPTIONS: [Known; 4] = [required("--input"), required("--output"), repeated("--skip"), optional("--progress")];
+
+const HEAD: &str = "\
+usage: gezdunar pack --input FILE --output FILE GRID
+         [--skip R,C]... [--progress WHEN]
+
+  --input FILE        the picture's samples: band by band, row by row,
+                      big-endian, each in as many whole bytes as its bits need;
+                      bits above a sample's own are dropped
+  --output FILE       the image; a file of that name is replaced; - is standard
+                      output
+  --skip R,C          leaves the block at block row R, block column C unwritten,
+                      as zeros; may be given several times
+  --progress WHEN     lines on standard error: auto (on a terminal every half
+                      second, else at every tenth after one second), always (at
+                      every tenth) or never; auto if not given
+";
+
+const TAIL: &str = "\
+The image is finished only if each block was written or skipped. Where the input
+ends early, the blocks that it does not hold are a hole: refused with 15 and the
+first such block, and no file is written. A longer input is refused with 14. The
+image and one row of blocks are held in memory.
+
+example:
+  gezdunar pack --input picture.raw --output picture.P \\
+    --rows 203 --columns 317 --bands 5 --bits 12 --mode P \\
+    --block-rows 64 --block-columns 48
+";
+
+fn run(given: &Given) -> Result<(), Failure> {
+    let picture = Picture::new(given)?;
+    let skipped = given.all("--skip").map(|text| pair("--skip", text)).collect::<Result<BTreeSet<_>, _>>()?;
+    let mut progress = Progress::new(given, picture.sizes.blocks)?;
+    let input = Path::new(given.needed("--input")?);
+    let output = Output::new("--output", given.needed("--output")?, input)?;
+    let mut source = Source::open(input, &picture)?;
+    let mut frame = started(&picture, &skipped)?;
+    write_blocks(&picture, &mut source, &skipped, &mut frame, &mut progress)?;
+    frame.finalize().map_err(|refusal| picture.refused(refusal, &source.facts(&picture)))?;
+    progress.next("writing the file");
+    output.write(&[frame.image()])?;
+    drop(progress);
+    let blocks = format!("{}, {} skipped", count(picture.sizes.blocks, "block"), skipped.len());
+    output.tell(&format!("{}: {blocks}, {}", picture.words(), count(picture.sizes.image_bytes, "byte")))
+}
+
+/// A frame in which the skipped blocks are marked.
+fn started(picture: &Picture, skipped: &BTreeSet<(u32, u32)>) -> Result<Frame, Failure> {
+    let image = format!("the image takes {} bytes", picture.sizes.image_bytes);
+    let mut frame = Frame::new(picture.grid).map_err(|refusal| picture.refused(refusal, &image))?;
+    for (row, column) in skipped {
+        let asked = format!("--skip {row},{column}");
+        frame.skip_block(*row, *column).map_err(|refusal| picture.refused(refusal, &asked))?;
+    }
+    Ok(frame)
+}
+
+/// Writes the blocks that are not skipped, by rows, then columns, up to the first that the input does not hold.
+fn write_blocks(
+    picture: &Picture,
+    source: &mut Source,
+    skipped: &BTreeSet<(u32, u32)>,
+    frame: &mut Frame,
+    progress: &mut Progress,
+) -> Result<(), Failure> {
+    let grid = &picture.grid;
+    let blocks = (0..grid.nbpc).flat_map(|row| (0..grid.nbpr).map(move |column| (row, column)));
+    for (row, column) in blocks {
+        if !skipped.contains(&(row, column)) {
+            if !source.holds(picture, row, column) {
+                return Ok(());
+            }
+            let data = source.block(picture, row, column)?;
+            let asked = format!("block row {row}, block column {column}");
+            let written = frame.encode_block(row, column, grid.block_shape(row, column), data);
+            written.map_err(|refusal| picture.refused(refusal, &asked))?;
+        }
+        if progress.pass() {
+            progress.tell(frame.progress().map_err(|refusal| picture.refused(refusal, "progress"))?);
+        }
+    }
+    Ok(())
+}
+
+/// The input, of which one row of blocks is in memory.
+struct Source {
+    path: PathBuf,
+    file: File,
+    bytes: u64,
+    row: Option<u32>,
+    strip: Vec<u8>,
+    data: Vec<u8>,
+}
+
+impl Source {
+    /// Opens the input, which must not be longer than the picture.
+    fn open(path: &Path, picture: &Picture) -> Result<Source, Failure> {
+        let fault = |error| Failure::file("read", path, error);
+        let file = File::open(path).map_err(fault)?;
+        let metadata = file.metadata().map_err(fault)?;
+        if !metadata.is_file() {
+            return Err(Failure::File(format!("cannot read {}: it is not a regular file", path.display())));
+        }
+        let bytes = metadata.len();
+        let source = Source { path: path.to_owned(), file, bytes, row: None, strip: Vec::new(), data: Vec::new() };
+        if bytes > picture.sample_bytes() {
+            return Err(picture.refused(Refusal::DataLength, &source.facts(picture)));
+        }
+        Ok(source)
+    }
+
+    fn facts(&self, picture: &Picture) -> String {
+        let (path, bytes, whole) = (self.path.display(), self.bytes, picture.sample_bytes());
+        format!("{path} has {bytes} bytes; the picture's samples take {whole}")
+    }
+
+    /// Does the input reach the end of a block's last band?
+    fn holds(&self, picture: &Picture, row: u32, column: u32) -> bool {
+        let grid = &picture.grid;
+        let shape = grid.block_shape(row, column);
+        let rows_before = u64::from(grid.bands - 1) * u64::from(grid.nrows) + u64::from(row) * u64::from(grid.nppbv);
+        let last_row = rows_before + shape.rows as u64 - 1;
+        let columns = u64::from(column) * u64::from(grid.nppbh) + shape.columns as u64;
+        (last_row * u64::from(grid.ncols) + columns) * picture.sizes.sample_bytes as u64 <= self.bytes
+    }
+
+    /// A block's samples, band by band, row by row.
+    fn block(&mut self, picture: &Picture, row: u32, column: u32) -> Result<&[u8], Failure> {
+        if self.row != Some(row) {
+            self.read_strip(picture, row)?;
+            self.row = Some(row);
+        }
+        let sample_bytes = picture.sizes.sample_bytes;
+        let line = picture.grid.ncols as usize * sample_bytes;
+        let start = column as usize * picture.grid.nppbh as usize * sample_bytes;
+        let length = picture.grid.actual_columns(column) * sample_bytes;
+        self.data.clear();
+        for row in self.strip.chunks_exact(line) {
+            self.data.extend_from_slice(&row[start..start + length]);
+        }
+        Ok(&self.data)
+    }
+
+    /// Reads the rows of a row of blocks, of every band, as far as the input goes; zeros after its end.
+    fn read_strip(&mut self, picture: &Picture, row: u32) -> Result<(), Failure> {
+        let (grid, line) = (&picture.grid, u64::from(picture.grid.ncols) * picture.sizes.sample_bytes as u64);
+        let rows = grid.actual_rows(row) as u64;
+        let bytes = rows * line;
+        if self.strip.capacity() == 0 {
+            // No later row of blocks has more rows.
+            self.strip = files::room(u64::from(grid.bands) * bytes)?;
+            self.data = files::room(grid.block_shape(row, 0).bytes(picture.sizes.sample_bytes) as u64)?;
+        }
+        self.strip.clear();
+        for band in 0..u64::from(grid.bands) {
+            let first = band * u64::from(grid.nrows) + u64::from(row) * u64::from(grid.nppbv);
+            let held = self.bytes.saturating_sub(first * line).min(bytes);
+            self.read_rows(first * line, held, bytes)?;
+        }
+        Ok(())
+    }
+
+    /// Adds so many bytes of the input to the strip, and zeros up to a length.
+    fn read_rows(&mut self, offset: u64, held: u64, bytes: u64) -> Result<(), Failure> {
+        let start = self.strip.len();
+        let fault = |error| Failure::file("read", &self.path, error);
+        self.file.seek(SeekFrom::Start(offset)).map_err(fault)?;
+        let read = Read::by_ref(&mut self.file).take(held).read_to_end(&mut self.strip).map_err(fault)?;
+        if (read as u64) < held {
+            return Err(Failure::File(format!("cannot read {}: it became shorter", self.path.display())));
+        }
+        self.strip.resize(start + bytes as usize, 0);
+        Ok(())
+    }
+}

@@ -1,0 +1,113 @@
+//! The grid, from its options.
+
+use crate::arguments::{required, Given, Known};
+use crate::failure::Failure;
+use crate::words::count;
+use gezdunar::{Grid, InterleaveMode, Refusal, Sizes};
+
+/// The options of a grid.
+pub const OPTIONS: [Known; 7] = [
+    required("--rows"),
+    required("--columns"),
+    required("--bands"),
+    required("--bits"),
+    required("--mode"),
+    required("--block-rows"),
+    required("--block-columns"),
+];
+
+/// What help says of a grid.
+pub const HELP: &str = "\
+grid (all of it must be given):
+  --rows N            rows of the picture (NROWS), 1 to 99,999,999
+  --columns N         columns of the picture (NCOLS), 1 to 99,999,999
+  --bands N           bands of the picture, 1 to 99,999
+  --bits N            bits of a sample (NBPP): 1 to 16, 24 to 32, 40, 48, 56
+                      or 64
+  --mode M            order of the samples (IMODE), a capital letter:
+                      B  band after band in each block
+                      P  pixel after pixel, all bands of a pixel together
+                      R  row after row, all bands of a row together
+                      S  band after band over the whole image, in blocks
+  --block-rows N      rows of a block (NPPBV), 1 to 8,192
+  --block-columns N   columns of a block (NPPBH), 1 to 8,192
+  Where the bits are no multiple of 8, a block at the right or lower edge holds
+  only its samples inside the picture, without gaps between rows; the standard
+  keeps full rows there.
+";
+
+/// A grid that was accepted, and its sizes.
+#[derive(Debug)]
+pub struct Picture {
+    /// The grid.
+    pub grid: Grid,
+    /// Its sizes.
+    pub sizes: Sizes,
+}
+
+impl Picture {
+    /// The grid that the options give.
+    pub fn new(given: &Given) -> Result<Picture, Failure> {
+        let grid = Grid::new(
+            given.number("--rows")?,
+            given.number("--columns")?,
+            given.number("--bands")?,
+            given.number("--bits")?,
+            mode(given)?,
+            given.number("--block-columns")?,
+            given.number("--block-rows")?,
+        );
+        match grid.sizes() {
+            Ok(sizes) => Ok(Picture { grid, sizes }),
+            Err(refusal) => Err(Failure::Refused(refusal, fields(&grid))),
+        }
+    }
+
+    /// A refusal of a call on this picture, with the facts that it was decided on.
+    pub fn refused(&self, refusal: Refusal, facts: &str) -> Failure {
+        let grid = &self.grid;
+        let facts = match refusal {
+            Refusal::BlockOutsideGrid => {
+                format!("{facts}; block rows are 0 to {}, block columns 0 to {}", grid.nbpc - 1, grid.nbpr - 1)
+            }
+            Refusal::NoSuchBand => format!("the bands are 0 to {}", grid.bands - 1),
+            Refusal::WindowOutsidePicture => {
+                format!("{facts}; the picture's rows are 0 to {}, its columns 0 to {}", grid.nrows - 1, grid.ncols - 1)
+            }
+            Refusal::OutputTooShort | Refusal::ImageTooShort | Refusal::MarksTooShort => {
+                format!("{facts}; there is no memory for that")
+            }
+            _ => facts.to_owned(),
+        };
+        Failure::Refused(refusal, facts)
+    }
+
+    /// Bytes of all samples of the picture, outside the image.
+    pub fn sample_bytes(&self) -> u64 {
+        let grid = &self.grid;
+        let rows = u64::from(grid.bands).saturating_mul(u64::from(grid.nrows));
+        rows.saturating_mul(u64::from(grid.ncols)).saturating_mul(self.sizes.sample_bytes as u64)
+    }
+
+    /// The grid in a few words.
+    pub fn words(&self) -> String {
+        let Grid { nrows, ncols, bands, nbpp, imode, .. } = self.grid;
+        let sides = [count(bands as usize, "band"), count(nrows as usize, "row"), count(ncols as usize, "column")];
+        format!("{}, {}, mode {imode}", sides.join(", "), count(nbpp as usize, "bit"))
+    }
+}
+
+fn mode(given: &Given) -> Result<InterleaveMode, Failure> {
+    let text = given.needed("--mode")?.to_string_lossy();
+    text.parse()
+        .map_err(|_| Failure::Arguments(format!("--mode: '{text}' is not one of the capital letters B, P, R and S")))
+}
+
+/// The fields of a grid, for a refusal.
+fn fields(grid: &Grid) -> String {
+    let Grid { nrows, ncols, bands, nbpp, imode, nppbh, nppbv, nbpr, nbpc } = grid;
+    format!(
+        "the grid: NROWS {nrows}, NCOLS {ncols}, bands {bands}, NBPP {nbpp}, IMODE {imode}, \
+         NPPBH {nppbh}, NPPBV {nppbv}, NBPR {nbpr}, NBPC {nbpc}"
+    )
+}
