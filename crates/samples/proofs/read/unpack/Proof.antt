@@ -1,88 +1,89 @@
--- `samples::read::unpack` meets its contract: the first k samples are put.
+-- `samples::read::unpack` meets its contract: the samples taken by eight bytes, and right after them the rest.
 -- Assumes nothing.
-use mathlib.Core.Path.{_≡_, _∙_, refl}
-use Prim.Native.Nat.{_-_, _≤_}
+use mathlib.Core.Path.{_≡_, sym, ap, _∙_}
+use mathlib.Core.List.{List}
+use Prim.Native.Nat.{ℕ, _+_, _-_, _*_, _≤_}
+use native.Mathlib.Nat.{add-mul, add-sub-of-le}
 use native.Mathlib.Omega.{arith}
 use denote.Ref.{now}
-use lib.ListN.{length}
-use Rattle.bits.specs.Over.{over}
-use Rattle.samples.specs.Samples.{values, spaced}
-use Rattle.samples.proofs.Moves.{Ends, ends, values-none, values-turn}
+use Rattle.bits.specs.Bits.{bitsAt}
+use Rattle.samples.specs.Samples.{spaced}
+use Rattle.samples.proofs.Moves.{values-run}
+use borrow.Author.Needs.{needs}
 use Rattle.samples.proofs.read.unpack.Statement.{statement}
 use Rattle.samples.proofs.read.unpack.Tie as tie
 
-abbrev Inv-loop : tie.InvT-loop
-Inv-loop src at step width size count out₀ to k₀ out k = (k ≤ count) × (out ≡ over out₀ to (values (spaced src at step width) size k)) × (length out ≡ length out₀)
+-- m of n things of s each, and the rest
+parts : (m n s : ℕ) → m ≤ n → m * s + (n - m) * s ≡ n * s
+parts m n s h = sym (add-mul m (n - m) s) ∙ ap (λ (k : ℕ). k * s) (add-sub-of-le h)
 
-abbrev μ-loop : tie.MeasureT-loop
-μ-loop src at step width size count out₀ to k₀ out k = count - k
-
--- in a turn: sample k ends within each run
-ends-in : (c : tie.In-loop Inv-loop μ-loop) → let a = c .before .before .before .before .args in Ends (c .before .loop .k) (a .count) (a .step) (a .size)
-ends-in c = let a = c .before .before .before .before .args in ends (c .before .loop .k) (a .count) (a .step) (a .size) (c .loop-test .taken)
-
-loop-holds : tie.Need-loop-holds Inv-loop μ-loop
-loop-holds c = (omega arith, values-none _ _ _ _, refl)
-
-mul-get-packed : tie.Need-mul-get-packed Inv-loop μ-loop
-mul-get-packed c = omega (arith, ends-in c)
-
-add-get-packed : tie.Need-add-get-packed Inv-loop μ-loop
-add-get-packed c = omega (arith, ends-in c)
-
-get-packed-requires : tie.Need-get-packed-requires Inv-loop μ-loop
-get-packed-requires c κs = omega (arith, ends-in c)
-
-mul-put-be : tie.Need-mul-put-be Inv-loop μ-loop
-mul-put-be c = omega (arith, ends-in (c .before .before))
-
-add-put-be : tie.Need-add-put-be Inv-loop μ-loop
-add-put-be c = omega (arith, ends-in (c .before .before))
-
-put-be-requires : tie.Need-put-be-requires Inv-loop μ-loop
-put-be-requires c κs = omega (arith, ends-in (c .before .before))
-
-add-k : tie.Need-add-k Inv-loop μ-loop
-add-k c = omega arith
-
-loop-less : tie.Need-loop-less Inv-loop μ-loop
-loop-less c = omega arith
-
-loop-again : tie.Need-loop-again Inv-loop μ-loop
+-- sample j of the rest
+spaced-rest : (xs : List ℕ) (at step w m j : ℕ) → spaced xs (at + m * step) step w j ≡ spaced xs at step w (m + j)
 unfolding spaced
-loop-again c =
-    let head = c .before .before .before .before .before .before in
-    let a = head .before .before .before .args in
-    let got = c .before .before .before .before .get-packed in
-    let put = c .before .before .put-be in
-    let f = ends-in (c .before .before .before .before .before) in (
-      omega arith,
-      values-turn (spaced (now (a .src)) (a .at) (a .step) (a .width)) (a .size) (now (a .out)) (a .to) (head .loop .k) (omega arith)
-          (head .loop .inv .1) (got .ensures) (put .ensures),
-      omega (arith, put .kept),
-    )
+spaced-rest xs at step w m j = ap (λ (i : ℕ). bitsAt xs i w) (omega (arith, add-mul m j step))
 
-same-length : tie.Need-same-length Inv-loop μ-loop
-same-length c = omega arith
+-- both runs are cut in two
+abbrev Cut : ℕ → ℕ → ℕ → ℕ → Type 0
+Cut m n step size = (m ≤ n) × (m * step + (n - m) * step ≡ n * step) × (m * size + (n - m) * size ≡ n * size)
 
-returns : tie.Need-returns Inv-loop μ-loop
-returns c = let e : c .before .loop .k ≡ c .before .before .before .before .args .count = omega arith in c .before .loop .inv .1 ∙ rw e
+cut-in : (c : tie.After-count-by-eight) → let a = c .before .before .before .args in Cut (c .count-by-eight .result) (a .count) (a .step) (a .size)
+cut-in c =
+    let a = c .before .before .before .args in
+    let m : ℕ = c .count-by-eight .result in
+    let h : m ≤ a .count = c .count-by-eight .ensures .0 in
+    (h, parts m (a .count) (a .step) h, parts m (a .count) (a .size) h)
+
+count-by-eight-requires : tie.Need-count-by-eight-requires
+count-by-eight-requires c κs = search needs
+
+unpack-by-eight-requires : tie.Need-unpack-by-eight-requires
+unpack-by-eight-requires c κs =
+    let f = cut-in (c .before) in
+    (omega arith, (c .before .count-by-eight .ensures .1, omega arith))
+
+mul-unpack-rest : tie.Need-mul-unpack-rest
+mul-unpack-rest c = omega (arith, cut-in (c .before .before .before .before))
+
+add-unpack-rest : tie.Need-add-unpack-rest
+add-unpack-rest c = omega (arith, cut-in (c .before .before .before .before))
+
+sub-unpack-rest : tie.Need-sub-unpack-rest
+sub-unpack-rest c = search needs
+
+mul-unpack-rest-2 : tie.Need-mul-unpack-rest-2
+mul-unpack-rest-2 c = omega (arith, cut-in (c .before .before .before .before .before))
+
+add-unpack-rest-2 : tie.Need-add-unpack-rest-2
+add-unpack-rest-2 c = omega (arith, cut-in (c .before .before .before .before .before))
+
+unpack-rest-requires : tie.Need-unpack-rest-requires
+unpack-rest-requires c κs = omega (arith, cut-in (c .before .before .before .before .before), c .before .before .before .unpack-by-eight .kept)
+
+same-length : tie.Need-same-length
+same-length c = search needs
+
+returns : tie.Need-returns
+returns c =
+    let counted = c .before .before .before .before .before .before .before .before in
+    let a = counted .before .before .before .args in
+    let m : ℕ = counted .count-by-eight .result in
+    let f = cut-in counted in
+    values-run (spaced (now (a .src)) (a .at) (a .step) (a .width)) (spaced (now (a .src)) (a .at + m * a .step) (a .step) (a .width)) (a .size) (now (a .out)) (a .to) m (a .count - m) (omega arith)
+    (c .before .before .before .before .before .before .unpack-by-eight .ensures) (c .before .before .unpack-rest .ensures)
+    (λ j l. spaced-rest (now (a .src)) (a .at) (a .step) (a .width) m j)
+    ∙ rw (add-sub-of-le (f .0))
 
 pub unpack-spec : {M : Type 1} → statement M
 unpack-spec =
     tie.close
     (tie.spec
-    Inv-loop
-    μ-loop
-    loop-holds
-    mul-get-packed
-    add-get-packed
-    get-packed-requires
-    mul-put-be
-    add-put-be
-    put-be-requires
-    add-k
-    loop-less
-    loop-again
+    count-by-eight-requires
+    unpack-by-eight-requires
+    mul-unpack-rest
+    add-unpack-rest
+    sub-unpack-rest
+    mul-unpack-rest-2
+    add-unpack-rest-2
+    unpack-rest-requires
     same-length
     returns)
