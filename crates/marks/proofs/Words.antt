@@ -81,6 +81,10 @@ next-word ms k h =
     ∙ count-word ms k 64 (omega arith)
     ∙ ap (λ (n : ℕ). count n (marked ms)) (omega arith)
 
+-- a word that has all its marks
+pub full-word : (ms : List ℕ) (k : ℕ) → getD ms k 0 < 2 ^ 64 → ones (getD ms k 0) ≡ 64 → count (k * 64) (marked ms) ≡ k * 64 → count ((k + 1) * 64) (marked ms) ≡ (k + 1) * 64
+full-word ms k l o h = sym (next-word ms k l) ∙ omega arith
+
 -- a word has at most 64 ones, whatever the mask
 pub masked-le : (w m : ℕ) → w < 2 ^ 64 → ones (bitAnd w m) ≤ 64
 masked-le w m h = ones-le 64 (bitAnd w m) (lt-of-le-of-lt (and-le-l w m) h)

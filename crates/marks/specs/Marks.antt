@@ -1,6 +1,7 @@
 -- Marks in lent 64-bit words: block i is bit i mod 64, lowest first, of word i / 64.
 -- Assumes nothing.
-use Prim.Native.Nat.{ℕ, zero, suc, _+_, _*_, _/_, _%_}
+use Prim.Native.Nat.{ℕ, zero, suc, _+_, _*_, _/_, _%_, _<_}
+use mathlib.Core.Path.{_≡_}
 use mathlib.Core.Bool.{Bool, true, false}
 use mathlib.Core.List.{List}
 use lib.Dec.{eqb}
@@ -18,6 +19,10 @@ markWords n = ceilDiv n 64
 -- is mark i one
 unfoldable pub marked : List ℕ → ℕ → Bool
 marked ms i = eqb (bitOf (getD ms (i / 64) 0) (i % 64)) 1
+
+-- are the first n marks one
+abbrev pub AllMarked : List ℕ → ℕ → Type 0
+AllMarked ms n = (i : ℕ) → i < n → marked ms i ≡ true
 
 -- the words with mark i set
 unfoldable pub mark : List ℕ → ℕ → List ℕ

@@ -2,7 +2,7 @@
 ghost use mathlib.Core.Path.{_≡_};
 ghost use Prim.Native.Nat.{_+_, _*_, _/_, _<_, _≤_, _^_};
 ghost use lib.ListN.{length};
-ghost use Rattle.marks.specs.Marks.{markWords, marked, mark, count, firstNot};
+ghost use Rattle.marks.specs.Marks.{markWords, marked, mark, count, firstNot, AllMarked};
 
 // The first unmarked block, by rows, then columns.
 pub enum FirstUnmarked {
@@ -56,13 +56,36 @@ pub fn count_marks(marks: &[u64], n: usize) -> usize
     sum
 }
 
+// How many of the first n words have all their marks, up to the first that has not.
+fn full_words(marks: &[u64], n: usize) -> usize
+    requires { ⌜ n ≤ length (now marks) ⌝ }
+    ensures { λ r. ⌜ (r ≤ n) × AllMarked (now (marks .entry)) (r * 64) ⌝ }
+{
+    for k in 0..n {
+        if u64::count_ones(marks[k]) != 64 {
+            return k;
+        }
+    }
+    n
+}
+
+// A row before which all blocks are marked, found by whole words.
+fn row_to_start(marks: &[u64], across: usize, down: usize) -> usize
+    requires { ⌜ (0 < across) × (across ≤ 9999) × (down ≤ 9999) × (down * across ≤ 64 * length (now marks)) ⌝ }
+    ensures { λ r. ⌜ (r ≤ down) × AllMarked (now (marks .entry)) (r * across) ⌝ }
+{
+    let words = full_words(marks, down * across / 64);
+    words * 64 / across
+}
+
 // The first unmarked block of a grid `across` blocks wide and `down` blocks high.
 pub fn first_unmarked(marks: &[u64], across: usize, down: usize) -> FirstUnmarked
-    requires { ⌜ (across ≤ 9999) × (down ≤ 9999) × (down * across ≤ 64 * length (now marks)) ⌝ }
+    requires { ⌜ (0 < across) × (across ≤ 9999) × (down ≤ 9999) × (down * across ≤ 64 * length (now marks)) ⌝ }
     ensures { λ r. ⌜ r ≡ firstNot (marked (now (marks .entry))) across down ⌝ }
 {
+    let start = row_to_start(marks, across, down);
     'first: loop {
-        for row in 0..down {
+        for row in start..down {
             for column in 0..across {
                 if !is_marked(marks, row * across + column) {
                     break 'first FirstUnmarked::Block { row, column };

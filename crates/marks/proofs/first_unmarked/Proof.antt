@@ -2,53 +2,58 @@
 -- Assumes nothing.
 use mathlib.Core.Path.{_≡_, sym, _∙_}
 use Prim.Native.Nat.{_+_, _-_, _*_, _≤_, _<_}
-use native.Mathlib.Nat.{mul-le-mul, add-zero, add-assoc, suc-mul}
+use native.Mathlib.Nat.{mul-le-mul, mul-le-mul-right, add-zero, add-assoc, suc-mul}
 use native.Mathlib.Numerals.{add-one}
 use native.Mathlib.Omega.{arith}
 use borrow.Author.Needs.{needs}
 use borrow.Author.Tests.{not-true, not-false}
 use lib.Arith.{digits-lt}
 use Rattle.marks.specs.Marks.{marked}
-use Rattle.marks.proofs.First.{At, starts, passes, stops, ends}
+use Rattle.marks.proofs.First.{At, reaches, passes, stops, ends}
 use Rattle.marks.proofs.first_unmarked.Statement.{statement}
 use Rattle.marks.proofs.first_unmarked.Tie as tie
 
 abbrev Inv-loop2 : tie.InvT-loop2
-Inv-loop2 marks across down row column₀ column = (column ≤ across) × At (marked marks) across down (row * across + column)
+Inv-loop2 marks across down start row column₀ column = (column ≤ across) × At (marked marks) across down (row * across + column)
 
 abbrev μ-loop2 : tie.MeasureT-loop2
-μ-loop2 marks across down row column₀ column = across - column
+μ-loop2 marks across down start row column₀ column = across - column
 
 abbrev Inv-loop : tie.InvT-loop
-Inv-loop marks across down row₀ row = (row ≤ down) × At (marked marks) across down (row * across)
+Inv-loop marks across down start row₀ row = (row ≤ down) × At (marked marks) across down (row * across)
 
 abbrev μ-loop : tie.MeasureT-loop
-μ-loop marks across down row₀ row = down - row
+μ-loop marks across down start row₀ row = down - row
 
 abbrev Inv-first : tie.InvT-first
-Inv-first marks across down = Unit {0}
+Inv-first marks across down start = Unit {0}
 
 abbrev μ-first : tie.MeasureT-first
-μ-first marks across down = 0
+μ-first marks across down start = 0
 
 -- the block at hand is one of the grid's
 inside :
     (c : tie.In-loop2 Inv-loop2 μ-loop2 Inv-loop μ-loop Inv-first μ-first) →
-    c .before .before .before .loop .row * c .before .before .before .before .before .before .args .across + c .before .loop2 .column
-    < c .before .before .before .before .before .before .args .down * c .before .before .before .before .before .before .args .across
+    c .before .before .before .loop .row * c .before .before .before .before .before .before .before .args .across + c .before .loop2 .column
+    < c .before .before .before .before .before .before .before .args .down * c .before .before .before .before .before .before .before .args .across
 inside c = digits-lt (c .before .before .loop-test .taken) (c .loop2-test .taken)
 
 -- and there are few of them
 small :
     (c : tie.In-loop2 Inv-loop2 μ-loop2 Inv-loop μ-loop Inv-first μ-first) →
-    c .before .before .before .before .before .before .args .down * c .before .before .before .before .before .before .args .across ≤ 9999 * 9999
-small c = mul-le-mul (c .before .before .before .before .before .before .pre .1) (c .before .before .before .before .before .before .pre .0)
+    c .before .before .before .before .before .before .before .args .down * c .before .before .before .before .before .before .before .args .across ≤ 9999 * 9999
+small c = mul-le-mul (c .before .before .before .before .before .before .before .pre .2) (c .before .before .before .before .before .before .before .pre .1)
+
+row-to-start-requires : tie.Need-row-to-start-requires Inv-loop2 μ-loop2 Inv-loop μ-loop Inv-first μ-first
+row-to-start-requires c κs = search needs
 
 first-holds : tie.Need-first-holds Inv-loop2 μ-loop2 Inv-loop μ-loop Inv-first μ-first
 first-holds c = tt
 
 loop-holds : tie.Need-loop-holds Inv-loop2 μ-loop2 Inv-loop μ-loop Inv-first μ-first
-loop-holds c = (search needs, starts _ _ _)
+loop-holds c =
+    let told = c .before .row-to-start .ensures in
+    (told .0, reaches _ _ _ _ (mul-le-mul-right _ (told .0)) (told .1))
 
 loop2-holds : tie.Need-loop2-holds Inv-loop2 μ-loop2 Inv-loop μ-loop Inv-first μ-first
 loop2-holds c = (search needs, rw add-zero (c .before .loop .inv .1))
@@ -85,7 +90,7 @@ loop-less c = omega arith
 loop-again : tie.Need-loop-again Inv-loop2 μ-loop2 Inv-loop μ-loop Inv-first μ-first
 loop-again c = (
   omega arith,
-  let e : c .before .loop2 .column ≡ c .before .before .before .before .before .before .args .across = omega arith in
+  let e : c .before .loop2 .column ≡ c .before .before .before .before .before .before .before .args .across = omega arith in
       rw (add-one, suc-mul) (rw e at (c .before .loop2 .inv .1)),
 )
 
@@ -96,7 +101,7 @@ returns c =
 
 returns-2 : tie.Need-returns-2 Inv-loop2 μ-loop2 Inv-loop μ-loop Inv-first μ-first
 returns-2 c =
-    let e : c .before .loop .row ≡ c .before .before .before .before .args .down = omega arith in
+    let e : c .before .loop .row ≡ c .before .before .before .before .before .args .down = omega arith in
     ends _ _ _ (rw e at (c .before .loop .inv .1))
 
 pub first-unmarked-spec : {M : Type 1} → statement M
@@ -109,6 +114,7 @@ first-unmarked-spec =
     μ-loop
     Inv-first
     μ-first
+    row-to-start-requires
     first-holds
     loop-holds
     loop2-holds

@@ -5,7 +5,7 @@ use mathlib.Core.Path.{_≡_, refl, sym, ap, _∙_}
 use native.Mathlib.Omega.{arith}
 use denote.Ref.{now}
 use lib.ListN.{length}
-use Rattle.grid.proofs.Accepted.{facts}
+use Rattle.grid.proofs.Accepted.{facts, across-pos}
 use Rattle.marks.specs.Marks.{marked}
 use Rattle.frame.specs.Writes.{number, unmarkedAnswer, finishAnswer, finish, finishNumber, startNumber}
 use Rattle.frame.proofs.Numbers.{Enough, finish-facts}
@@ -44,7 +44,7 @@ first-unmarked-requires : tie.Need-first-unmarked-requires
 first-unmarked-requires c κs =
     let k = enough (c .before .before) in
     let f = facts _ (k .accepted) in
-    (f .counts .nbpr-le, f .counts .nbpc-le, omega (arith, k .words))
+    (across-pos _ f, f .counts .nbpr-le, f .counts .nbpc-le, omega (arith, k .words))
 
 enum-told : tie.Need-enum-told
 enum-told c = search needs

@@ -1,0 +1,126 @@
+//! Rows of `decode_block` and `encode_block`.
+
+use std::hint::black_box;
+
+use gezdunar::{Bands, Grid, Shape, Sizes, Window};
+use original::owned_buffer::OwnedBuffer;
+
+use crate::buffers::{copy, source, source_of, Output};
+use crate::measure::{best, release, Side};
+use crate::moves::{apply, in_image, of_block};
+use crate::original::{self as rust, Block};
+use crate::report::Times;
+
+pub fn sizes(grid: &Grid) -> Sizes {
+    grid.sizes().expect("an accepted grid")
+}
+
+fn shape(grid: &Grid, (row, column): Block, bands: Option<&[u32]>) -> Shape {
+    Shape { bands: listed(bands).count(grid.bands), ..grid.block_shape(row, column) }
+}
+
+/// None takes all bands.
+fn listed(bands: Option<&[u32]>) -> Bands<'_> {
+    bands.map_or(Bands::All, Bands::Listed)
+}
+
+pub fn decoded_bytes(grid: &Grid, block: Block, bands: Option<&[u32]>) -> usize {
+    shape(grid, block, bands).bytes(sizes(grid).sample_bytes)
+}
+
+fn decode_block(image: &OwnedBuffer, grid: &Grid, block: Block, bands: Option<&[u32]>, out: &mut Output) {
+    let (image, out) = (black_box(image.as_bytes()), out.bytes());
+    gezdunar::decode_block(image, grid, block.0, block.1, 0, listed(bands), out).expect("a block of the grid");
+}
+
+pub fn decode(grid: &Grid, block: Block, bands: Option<&[u32]>) -> Times {
+    let image = source(sizes(grid).image_bytes);
+    let length = decoded_bytes(grid, block, bands);
+    let (mut out, mut copied) = (Output::new(length), Output::new(length));
+    let decoder = rust::decoder(grid, image.clone());
+
+    decode_block(&image, grid, block, bands, &mut out);
+    let samples = rust::decode_block(&decoder, block, bands);
+    let expected = rust::big_endian(grid.imode, sizes(grid).sample_bytes, samples);
+    assert!(out.bytes() == expected, "the samples differ: {grid:?}");
+    drop(expected);
+
+    Times::new(best([
+        Side::Call(&mut || release(rust::decode_block(&decoder, block, bands))),
+        Side::Call(&mut || decode_block(&image, grid, block, bands, &mut out)),
+        Side::Call(&mut || copy(image.as_bytes(), &mut copied)),
+    ]))
+}
+
+/// Against memcpy of the same rows out of the image, in B, R and S at byte multiples.
+pub fn decode_by_rows(grid: &Grid, block: Block) -> Times {
+    let image = source(sizes(grid).image_bytes);
+    let [mut out, mut copied] = [(); 2].map(|()| Output::new(decoded_bytes(grid, block, None)));
+    let shape = shape(grid, block, None);
+    let window = Window {
+        row: block.0 * grid.nppbv,
+        column: block.1 * grid.nppbh,
+        rows: shape.rows as u32,
+        columns: shape.columns as u32,
+    };
+    let moves = of_block(grid, &window, block, in_image(grid, block));
+
+    decode_block(&image, grid, block, None, &mut out);
+    apply(&moves, image.as_bytes(), &mut copied);
+    assert!(out.bytes() == copied.bytes(), "the samples differ: {grid:?}");
+
+    Times::without_original(best([
+        Side::Call(&mut || decode_block(&image, grid, block, None, &mut out)),
+        Side::Call(&mut || apply(&moves, image.as_bytes(), &mut copied)),
+    ]))
+}
+
+/// The image and the marks that the product writes.
+struct Frame {
+    image: Output,
+    marks: Vec<u64>,
+}
+
+impl Frame {
+    fn start(grid: &Grid) -> Frame {
+        let sizes = sizes(grid);
+        let mut frame = Frame { image: Output::new(sizes.image_bytes), marks: vec![0; sizes.mark_words] };
+        gezdunar::start(frame.image.bytes(), &mut frame.marks, grid).expect("room for the image and the marks");
+        frame
+    }
+
+    fn encode_block(&mut self, grid: &Grid, block: Block, data: &OwnedBuffer) {
+        let (image, data) = (self.image.bytes(), black_box(data.as_bytes()));
+        gezdunar::encode_block(image, &mut self.marks, grid, block.0, block.1, shape(grid, block, None), data)
+            .expect("a block of the grid");
+    }
+}
+
+/// Bytes of the image that a block's samples take.
+pub fn encoded_bytes(grid: &Grid, block: Block) -> usize {
+    let Shape { bands, rows, columns } = shape(grid, block, None);
+    (bands * rows * columns * grid.nbpp as usize).div_ceil(8)
+}
+
+pub fn encode(grid: &Grid, block: Block) -> Times {
+    let data = source(decoded_bytes(grid, block, None));
+    let host_data = source_of(&rust::host_order(sizes(grid).sample_bytes, data.as_bytes()));
+    let mut frame = Frame::start(grid);
+    let shape = shape(grid, block, None);
+    let mut copied = Output::new(encoded_bytes(grid, block));
+
+    frame.encode_block(grid, block, &data);
+    let mut encoder = rust::encoder(grid);
+    rust::encode_block(&mut encoder, block, shape, host_data.as_bytes());
+    rust::skip_blocks(&mut encoder, grid, None);
+    let expected = rust::finalize(encoder).expect("every block is marked");
+    assert!(frame.image.bytes() == expected, "the images differ: {grid:?}");
+    drop(expected);
+
+    let mut encoder = rust::encoder(grid);
+    Times::new(best([
+        Side::Call(&mut || rust::encode_block(&mut encoder, block, shape, black_box(host_data.as_bytes()))),
+        Side::Call(&mut || frame.encode_block(grid, block, &data)),
+        Side::Call(&mut || copy(data.as_bytes(), &mut copied)),
+    ]))
+}
