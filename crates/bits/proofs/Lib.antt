@@ -3,3 +3,4 @@ pub mod Bits
 pub mod Over
 pub mod Bytes
 pub mod Shift
+pub mod Joined

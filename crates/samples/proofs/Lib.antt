@@ -2,3 +2,4 @@
 pub mod Samples
 pub mod Moves
 pub mod Patched
+pub mod Groups

@@ -1,3 +1,4 @@
 -- The definitions of `samples`.
 pub mod Samples
 pub mod Patched
+pub mod Groups

@@ -1,4 +1,6 @@
 // Samples moved along a row: out of an image into lent data, and back.
 pub mod bytes;
+mod pack;
 pub mod read;
+mod unpack;
 pub mod write;

@@ -6,6 +6,7 @@ ghost use Rattle.samples.specs.Samples.{sideBySide, putSpaced};
 use crate::bytes::copy;
 use crate::bytes::get_be;
 use crate::bytes::put_be;
+use crate::pack::pack;
 
 // Samples of `size` bytes, side by side from index `from` of `dat` on, into `img`, one every `step` bytes from index `at` on.
 fn scatter_any(
@@ -50,27 +51,6 @@ fn scatter(
         4 => scatter_any(dat, from, 4, img, at, step, count),
         8 => scatter_any(dat, from, 8, img, at, step, count),
         _ => scatter_any(dat, from, size, img, at, step, count),
-    }
-}
-
-// Samples of `size` bytes, side by side from index `from` of `dat` on: their low `width` bits into `img`, one every `step` bits from bit `at` on.
-fn pack(
-    dat: &[u8],
-    from: usize,
-    size: usize,
-    img: &mut [u8],
-    at: usize,
-    step: usize,
-    width: usize,
-    count: usize,
-)
-    requires { ⌜ (width ≤ 64) × (size ≤ 8) × (from + count * size ≤ length (now dat)) ⌝ }
-    requires { ⌜ (at + count * step + width < 2 ^ 63) × (at + count * step + width ≤ 8 * length (now img) + step) ⌝ }
-    ensures { λ _. ⌜ now (img .exit) ≡ putSpaced (sideBySide (now (dat .entry)) from size) width at step count (now (img .entry)) ⌝ }
-{
-    for k in 0..count {
-        let v = get_be(dat, from + k * size, size);
-        bits::put_bits(img, at + k * step, width, v);
     }
 }
 

@@ -4,8 +4,8 @@ use Prim.Native.Nat.{_*_, _-_, _≤_}
 use native.Mathlib.Nat.{mul-le-mul-right}
 use native.Mathlib.Omega.{arith}
 use borrow.Author.Needs.{needs}
-use Rattle.samples.proofs.read.count_by_eight.Statement.{statement}
-use Rattle.samples.proofs.read.count_by_eight.Tie as tie
+use Rattle.samples.proofs.unpack.count_by_eight.Statement.{statement}
+use Rattle.samples.proofs.unpack.count_by_eight.Tie as tie
 
 -- all but the last 64
 most-in : (c : tie.Else2) → let a = c .before .before .args in (a .count - 64) * a .step ≤ a .count * a .step

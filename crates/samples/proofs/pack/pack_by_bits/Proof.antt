@@ -1,4 +1,4 @@
--- `samples::write::pack` meets its contract: the first k samples are put.
+-- `samples::write::pack_by_bits` meets its contract: the first k samples are put.
 -- Assumes nothing.
 use mathlib.Core.Path.{_≡_, _∙_, refl}
 use Prim.Native.Nat.{_-_, _≤_}
@@ -7,8 +7,8 @@ use denote.Ref.{now}
 use lib.ListN.{length}
 use Rattle.samples.specs.Samples.{sideBySide, putSpaced}
 use Rattle.samples.proofs.Moves.{Ends, ends, putSpaced-none, putSpaced-turn}
-use Rattle.samples.proofs.write.pack.Statement.{statement}
-use Rattle.samples.proofs.write.pack.Tie as tie
+use Rattle.samples.proofs.pack.pack_by_bits.Statement.{statement}
+use Rattle.samples.proofs.pack.pack_by_bits.Tie as tie
 
 abbrev Inv-loop : tie.InvT-loop
 Inv-loop dat from size img₀ at step width count k₀ img k = (k ≤ count) × (img ≡ putSpaced (sideBySide dat from size) width at step k img₀) × (length img ≡ length img₀)
@@ -66,8 +66,8 @@ same-length c = omega arith
 returns : tie.Need-returns Inv-loop μ-loop
 returns c = let e : c .before .loop .k ≡ c .before .before .before .before .args .count = omega arith in c .before .loop .inv .1 ∙ rw e
 
-pub pack-spec : {M : Type 1} → statement M
-pack-spec =
+pub pack-by-bits-spec : {M : Type 1} → statement M
+pack-by-bits-spec =
     tie.close
     (tie.spec
     Inv-loop

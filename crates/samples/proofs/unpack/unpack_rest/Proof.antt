@@ -1,4 +1,4 @@
--- `samples::read::unpack_by_eight_any` meets its contract: the first k samples are put.
+-- `samples::read::unpack_rest` meets its contract: the first k samples are put.
 -- Assumes nothing.
 use mathlib.Core.Path.{_≡_, _∙_, refl}
 use Prim.Native.Nat.{_-_, _≤_}
@@ -8,8 +8,8 @@ use lib.ListN.{length}
 use Rattle.bits.specs.Over.{over}
 use Rattle.samples.specs.Samples.{values, spaced}
 use Rattle.samples.proofs.Moves.{Ends, ends, values-none, values-turn}
-use Rattle.samples.proofs.read.unpack_by_eight_any.Statement.{statement}
-use Rattle.samples.proofs.read.unpack_by_eight_any.Tie as tie
+use Rattle.samples.proofs.unpack.unpack_rest.Statement.{statement}
+use Rattle.samples.proofs.unpack.unpack_rest.Tie as tie
 
 abbrev Inv-loop : tie.InvT-loop
 Inv-loop src at step width size count out₀ to k₀ out k = (k ≤ count) × (out ≡ over out₀ to (values (spaced src at step width) size k)) × (length out ≡ length out₀)
@@ -24,14 +24,14 @@ ends-in c = let a = c .before .before .before .before .args in ends (c .before .
 loop-holds : tie.Need-loop-holds Inv-loop μ-loop
 loop-holds c = (omega arith, values-none _ _ _ _, refl)
 
-mul-get-by-eight : tie.Need-mul-get-by-eight Inv-loop μ-loop
-mul-get-by-eight c = omega (arith, ends-in c)
+mul-get-packed : tie.Need-mul-get-packed Inv-loop μ-loop
+mul-get-packed c = omega (arith, ends-in c)
 
-add-get-by-eight : tie.Need-add-get-by-eight Inv-loop μ-loop
-add-get-by-eight c = omega (arith, ends-in c)
+add-get-packed : tie.Need-add-get-packed Inv-loop μ-loop
+add-get-packed c = omega (arith, ends-in c)
 
-get-by-eight-requires : tie.Need-get-by-eight-requires Inv-loop μ-loop
-get-by-eight-requires c κs = omega (arith, ends-in c, c .before .before .before .before .pre .1 .0 (omega arith))
+get-packed-requires : tie.Need-get-packed-requires Inv-loop μ-loop
+get-packed-requires c κs = omega (arith, ends-in c)
 
 mul-put-be : tie.Need-mul-put-be Inv-loop μ-loop
 mul-put-be c = omega (arith, ends-in (c .before .before))
@@ -53,7 +53,7 @@ unfolding spaced
 loop-again c =
     let head = c .before .before .before .before .before .before in
     let a = head .before .before .before .args in
-    let got = c .before .before .before .before .get-by-eight in
+    let got = c .before .before .before .before .get-packed in
     let put = c .before .before .put-be in
     let f = ends-in (c .before .before .before .before .before) in (
       omega arith,
@@ -68,16 +68,16 @@ same-length c = omega arith
 returns : tie.Need-returns Inv-loop μ-loop
 returns c = let e : c .before .loop .k ≡ c .before .before .before .before .args .count = omega arith in c .before .loop .inv .1 ∙ rw e
 
-pub unpack-by-eight-any-spec : {M : Type 1} → statement M
-unpack-by-eight-any-spec =
+pub unpack-rest-spec : {M : Type 1} → statement M
+unpack-rest-spec =
     tie.close
     (tie.spec
     Inv-loop
     μ-loop
     loop-holds
-    mul-get-by-eight
-    add-get-by-eight
-    get-by-eight-requires
+    mul-get-packed
+    add-get-packed
+    get-packed-requires
     mul-put-be
     add-put-be
     put-be-requires

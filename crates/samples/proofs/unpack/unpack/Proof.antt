@@ -10,8 +10,8 @@ use Rattle.bits.specs.Bits.{bitsAt}
 use Rattle.samples.specs.Samples.{spaced}
 use Rattle.samples.proofs.Moves.{values-run}
 use borrow.Author.Needs.{needs}
-use Rattle.samples.proofs.read.unpack.Statement.{statement}
-use Rattle.samples.proofs.read.unpack.Tie as tie
+use Rattle.samples.proofs.unpack.unpack.Statement.{statement}
+use Rattle.samples.proofs.unpack.unpack.Tie as tie
 
 -- m of n things of s each, and the rest
 parts : (m n s : ℕ) → m ≤ n → m * s + (n - m) * s ≡ n * s

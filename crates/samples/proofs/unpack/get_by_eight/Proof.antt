@@ -11,8 +11,8 @@ use Rattle.bits.specs.Bits.{Bytes, bitsAt, beAt}
 use Rattle.bits.proofs.Shift.{one-shl}
 use Rattle.samples.proofs.Moves.{packed}
 use borrow.Author.Needs.{needs}
-use Rattle.samples.proofs.read.get_by_eight.Statement.{statement}
-use Rattle.samples.proofs.read.get_by_eight.Tie as tie
+use Rattle.samples.proofs.unpack.get_by_eight.Statement.{statement}
+use Rattle.samples.proofs.unpack.get_by_eight.Tie as tie
 
 -- shifted and masked
 masked : (xs : List ℕ) (at w x : ℕ) → Bytes xs → w ≤ 57 → x ≡ beAt xs (at / 8) 8 → bitAnd (x / 2 ^ ((64 - at % 8 - w) % 64)) (1 * 2 ^ w % 2 ^ 64 - 1) ≡ bitsAt xs at w

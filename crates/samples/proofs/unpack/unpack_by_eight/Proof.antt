@@ -1,8 +1,8 @@
 -- `samples::read::unpack_by_eight` meets its contract: each arm is the call at its literal.
 -- Assumes nothing.
 use borrow.Author.Needs.{needs}
-use Rattle.samples.proofs.read.unpack_by_eight.Statement.{statement}
-use Rattle.samples.proofs.read.unpack_by_eight.Tie as tie
+use Rattle.samples.proofs.unpack.unpack_by_eight.Statement.{statement}
+use Rattle.samples.proofs.unpack.unpack_by_eight.Tie as tie
 
 unpack-by-eight-any-requires : tie.Need-unpack-by-eight-any-requires
 unpack-by-eight-any-requires c κs = rw (c .before .match .keys1) at (c .before .before .before .before .pre)
