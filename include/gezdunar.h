@@ -1,7 +1,7 @@
 /* Gezdunar: uncompressed NITF 2.1 image blocks. Link with libexports.a, which `rt staticlib exports` builds.
 
-   A slice crosses as a pointer and a length in elements. A pointer beside length 0 must not be null. Buffers that are
-   written must not overlap others of the same call.
+   A slice crosses as a pointer and a length in elements. A pointer beside length 0 must not be null, nor the list's
+   beside all. Buffers that are written must not overlap others of the same call.
    The grid crosses as nine numbers, NROWS to NBPC, with IMODE as its letter's byte: 'B', 'P', 'R' or 'S'.
    Every answer has a number: 0 where the call was accepted, else what was wrong first, in the order in which the call
    asks. A refused call writes nothing.
@@ -29,8 +29,8 @@
 extern "C" {
 #endif
 
-/* Sizes of a grid: bytes of a sample in lent data, of a band of a block, of a block, of the image; how many blocks the
-   picture has, and how many words their marks take. */
+/* Sizes of a grid: bytes of a sample in lent data, of a band of a block, of a block (in S not in one part), of the image;
+   how many blocks the picture has, and how many words their marks take. */
 struct gezdunar_sizes {
     uint32_t number;
     size_t sample_bytes;
@@ -47,7 +47,7 @@ struct gezdunar_shape { uint32_t number; size_t bands; size_t rows; size_t colum
 /* Part of the image, in bytes. */
 struct gezdunar_place { uint32_t number; size_t start; size_t length; };
 
-/* Answer of a call on a frame. */
+/* Answer of a call on a frame; first and second are 0 unless the call says otherwise. */
 struct gezdunar_answer { uint32_t number; size_t first; size_t second; };
 
 /* Header of an image data mask table: IMDATOFF, BMRLNTH, TMRLNTH, TPXCDLNTH (bits), TPXCD. */
@@ -95,7 +95,7 @@ struct gezdunar_place gezdunar_whole_block(
     uint32_t block_col);
 
 /* Reads a rectangle of the picture, across blocks, as gezdunar_decode_block reads a block.
-   Lent: image, list. Written: the front of out. Numbers: 0 to 4, 7 to 10, 99. */
+   Lent: image, list. Written: the front of out, bands x rows x columns x bytes of a sample; the rest is kept. Numbers: 0 to 4, 7 to 10, 99. */
 struct gezdunar_shape gezdunar_read_window(
     const uint8_t *image, size_t image_length, uint32_t nrows, uint32_t ncols, uint32_t bands, uint32_t nbpp,
     uint8_t imode, uint32_t nppbh, uint32_t nppbv, uint32_t nbpr, uint32_t nbpc, uint32_t row,
@@ -109,8 +109,10 @@ struct gezdunar_answer gezdunar_start(
     uint32_t ncols, uint32_t bands, uint32_t nbpp, uint8_t imode, uint32_t nppbh, uint32_t nppbv,
     uint32_t nbpr, uint32_t nbpc);
 
-/* Stores the samples of a block, which stand in data band by band, row by row, and marks the block.
-   Lent: data. Written: image, marks. Numbers: 0 to 4, 6, 11 to 14, 99. */
+/* Stores the samples of a block, which stand in data band by band, row by row, and marks the block. Bits of a sample above
+   NBPP are dropped. A block may be written again.
+   Lent: data. Written: in the image the samples' bytes or, where NBPP is no multiple of 8, the bytes of the block's bands;
+   in marks the block's bit. Numbers: 0 to 4, 6, 11 to 14, 99. */
 struct gezdunar_answer gezdunar_encode_block(
     uint8_t *image, size_t image_length, uint64_t *marks, size_t marks_length, uint32_t nrows,
     uint32_t ncols, uint32_t bands, uint32_t nbpp, uint8_t imode, uint32_t nppbh, uint32_t nppbv,
@@ -118,14 +120,14 @@ struct gezdunar_answer gezdunar_encode_block(
     size_t shape_rows, size_t shape_columns, const uint8_t *data, size_t data_length);
 
 /* Marks a block and keeps its bytes.
-   Lent: image. Written: marks. Numbers: 0 to 4, 6, 11, 12, 99. */
+   Lent: image. Written: in marks the block's bit. Numbers: 0 to 4, 6, 11, 12, 99. */
 struct gezdunar_answer gezdunar_skip_block(
     const uint8_t *image, size_t image_length, uint64_t *marks, size_t marks_length, uint32_t nrows,
     uint32_t ncols, uint32_t bands, uint32_t nbpp, uint8_t imode, uint32_t nppbh, uint32_t nppbv,
     uint32_t nbpr, uint32_t nbpc, uint32_t block_row, uint32_t block_col);
 
 /* How many blocks are marked, in first.
-   Lent: marks. Numbers: 0 to 4, 12, 99. */
+   Lent: marks. Written: nothing. Numbers: 0 to 4, 12, 99. */
 struct gezdunar_answer gezdunar_progress(
     const uint64_t *marks, size_t marks_length, uint32_t nrows, uint32_t ncols, uint32_t bands,
     uint32_t nbpp, uint8_t imode, uint32_t nppbh, uint32_t nppbv, uint32_t nbpr, uint32_t nbpc);
@@ -138,7 +140,7 @@ struct gezdunar_answer gezdunar_finalize(
     uint32_t nbpr, uint32_t nbpc);
 
 /* The header of an image data mask table, and how many bytes the table takes.
-   Lent: table. Numbers: 0 to 4, 16 to 19, 99. */
+   Lent: table. Written: nothing. Numbers: 0 to 4, 16 to 19, 99. */
 struct gezdunar_parsed gezdunar_mask_parse(
     const uint8_t *table, size_t table_length, uint32_t nrows, uint32_t ncols, uint32_t bands, uint32_t nbpp,
     uint8_t imode, uint32_t nppbh, uint32_t nppbv, uint32_t nbpr, uint32_t nbpc);
@@ -151,28 +153,31 @@ struct gezdunar_written gezdunar_mask_write(
     uint16_t code_length, uint32_t code, const uint32_t *block_offsets, size_t block_offsets_length,
     const uint32_t *pad_offsets, size_t pad_offsets_length, uint8_t *out, size_t out_length);
 
-/* Is a band of a block present?
-   Lent: table. Numbers: 0 to 4, 6, 8, 16 to 19, 99. */
+/* Is a band of a block present? In S the record is that of block index + band, which is neither the standard's order nor
+   that in which gezdunar_mask_from_marks fills.
+   Lent: table. Written: nothing. Numbers: 0 to 4, 6, 8, 16 to 19, 99. */
 struct gezdunar_present gezdunar_has_block(
     const uint8_t *table, size_t table_length, uint32_t nrows, uint32_t ncols, uint32_t bands, uint32_t nbpp,
     uint8_t imode, uint32_t nppbh, uint32_t nppbv, uint32_t nbpr, uint32_t nbpc, uint32_t block_row,
     uint32_t block_col, uint32_t band);
 
 /* The offset in the record of a band of a block; none is given for an empty block, nor where there are no block records.
-   Lent: table. Numbers: 0 to 4, 6, 8, 16 to 19, 99. */
+   In S the record is that of block index + band, as in gezdunar_has_block.
+   Lent: table. Written: nothing. Numbers: 0 to 4, 6, 8, 16 to 19, 99. */
 struct gezdunar_block_offset gezdunar_get_block_offset(
     const uint8_t *table, size_t table_length, uint32_t nrows, uint32_t ncols, uint32_t bands, uint32_t nbpp,
     uint8_t imode, uint32_t nppbh, uint32_t nppbv, uint32_t nbpr, uint32_t nbpc, uint32_t block_row,
     uint32_t block_col, uint32_t band);
 
-/* The mask of a picture of which the marked blocks are provided: offset 0 for a marked block, 0xFFFFFFFF for another.
+/* The mask of a picture of which the marked blocks are provided: offset 0 for a marked block, 0xFFFFFFFF for another. The
+   record lengths are 4 and 0, there is no code, IMDATOFF is 0. In S record block index x bands + band is the block's.
    Lent: marks. Written: the front of out, as many words as used says. Numbers: 0 to 4, 9, 12, 99. */
 struct gezdunar_parsed gezdunar_mask_from_marks(
     const uint64_t *marks, size_t marks_length, uint32_t nrows, uint32_t ncols, uint32_t bands,
     uint32_t nbpp, uint8_t imode, uint32_t nppbh, uint32_t nppbv, uint32_t nbpr, uint32_t nbpc,
     uint32_t *out, size_t out_length);
 
-/* Data in the order of a mode, to band order. A sample has 1 to 8 bytes.
+/* Data in the order of a mode, to band order. A sample has bytes_per_pixel bytes, 1 to 8.
    Lent: data. Written: the front of out. Numbers: 0, 2, 4, 9, 14, 99. */
 struct gezdunar_reordered gezdunar_to_band_sequential(
     const uint8_t *data, size_t data_length, uint8_t imode, uint32_t nrows, uint32_t ncols, uint32_t nbands,
@@ -185,7 +190,7 @@ struct gezdunar_reordered gezdunar_from_band_sequential(
     size_t bytes_per_pixel, uint8_t *out, size_t out_length);
 
 /* Listed bands of data in the order of P, to band order.
-   Lent: data, bands. Written: the front of out. Numbers: 0, 2, 4, 8, 9, 14. */
+   Lent: data, list. Written: the front of out. Numbers: 0, 2, 4, 8, 9, 14. */
 struct gezdunar_reordered gezdunar_fused_bip_to_bsq(
     const uint8_t *data, size_t data_length, uint32_t nrows, uint32_t ncols, uint32_t nbands,
     size_t bytes_per_pixel, bool all, const uint32_t *list, size_t list_length, uint8_t *out,

@@ -43,7 +43,7 @@ def is_there(name):
     if "::" in name:
         crate, last = name.split("::")[0], name.split("::")[-1]
         return has_word(last, sources(crate) if crate in NAMES else SOURCES + RUST)
-    if name in NAMES or (ROOT / name).exists():
+    if name in NAMES or (ROOT / name).exists() or (ROOT / "differential" / name).exists():
         return True
     return any(has_word(name, text) for text in (SPECS, SOURCES, LAWS, RUST))
 

@@ -2,7 +2,8 @@
 -- Assumes nothing.
 use Prim.Native.Nat.{ℕ, zero, suc, _*_}
 use mathlib.Core.Path.{_≡_, refl, sym, _∙_}
-use mathlib.Core.List.{[], _∷_}
+use mathlib.Core.List.{List, [], _∷_}
+use lib.ListN.{length, take, drop}
 use denote.Enum.Declared.{tagOf}
 use types.Run.{OneOf}
 use Rattle.grid.specs.declared.Grid.{Grid}
@@ -10,7 +11,7 @@ use Rattle.grid.specs.declared.InterleaveMode.{InterleaveMode}
 use Rattle.grid.specs.declared.InterleaveMode.the-variants.{B, P, R, S}
 use Rattle.grid.specs.Sizes.{bandBytes, blockIndex}
 use Rattle.grid.proofs.InterleaveMode.{the-type}
-use Rattle.frame.specs.Reads.{wholeNumber}
+use Rattle.frame.specs.Reads.{wholeNumber, wholeBlock, nominalBytes, partBy}
 use Rattle.reading.proofs.BlockNumbers.{not-s}
 use Rattle.exports.specs.declared.Place.{Place}
 use Rattle.exports.specs.Exports.{placeIn, placeBy, wholePlace}
@@ -46,3 +47,19 @@ place-some g n row column ei es e h = rw (ei, es, e) (go (g .imode) h)
     go P h = refl
     go R h = refl
     go S h = absurd (not-s h)
+
+-- the bytes at that place are the whole block's
+pub place-part : (g : Grid) (image : List ℕ) (row column : ℕ)
+    → take (wholePlace g (length image) row column .length) (drop (wholePlace g (length image) row column .start) image) ≡ wholeBlock g image row column
+unfolding wholePlace wholeBlock nominalBytes partBy
+place-part g image row column = go (wholeNumber g (length image) row column)
+  where
+    nominal : (m : InterleaveMode) → take (placeIn m g row column .length) (drop (placeIn m g row column .start) image) ≡ nominalBytes m g image row column
+    nominal B = refl
+    nominal P = refl
+    nominal R = refl
+    nominal S = refl
+
+    go : (k : ℕ) → take (placeBy k g row column .length) (drop (placeBy k g row column .start) image) ≡ partBy k (nominalBytes (g .imode) g image row column)
+    go zero = nominal (g .imode)
+    go (suc k) = refl

@@ -75,7 +75,7 @@ placeBy (suc n) g row column = record { number = suc n; start = 0; length = 0 }
 unfoldable pub wholePlace : Grid → ℕ → ℕ → ℕ → Place
 wholePlace g n row column = placeBy (wholeNumber g n row column) g row column
 
--- the sizes of an accepted grid, in document 01's order: s, t, the block's, the image's, the blocks, the words for their marks
+-- the sizes of an accepted grid: s, t, the block's, the image's, the blocks, the words for their marks
 abbrev pub noSizes : ℕ → GridSizes
 noSizes n = record { number = n; «sample_bytes» = 0; «band_bytes» = 0; «block_bytes» = 0; «image_bytes» = 0; blocks = 0; «mark_words» = 0 }
 

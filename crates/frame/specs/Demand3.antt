@@ -38,6 +38,7 @@ pub record Alike (n : ℕ) (a b : Filled) : Type 0 where
   pub shape : a .shape ≡ b .shape
   pub bytes : a .shape .number ≡ 0 → take n (a .out) ≡ take n (b .out)
 
+-- what holds after a list of calls
 pub record Holds (g : Grid) (image marks : List ℕ) (cs : List Call) : Type 0 where
   -- each call answers as the plain frame does
   pub answers : after g image marks cs .answers ≡ plain g image marks cs .answers

@@ -58,6 +58,7 @@ blockNumber g n row column level bs m =
     (ask 8 (q8 (g .bands) bs)
     (ask 9 (leb (bandCount (g .bands) bs * actualRows g row * actualColumns g column * sampleBytes g) m) 0)))))
 
+-- the block read: the bands asked for of a block's actual samples
 unfoldable pub blockRead : Grid → List ℕ → ℕ → ℕ → ℕ → Bands → List ℕ → Filled
 blockRead g image row column level bs out =
     filled (blockNumber g (length image) row column level bs (length out))
@@ -89,6 +90,7 @@ unfoldable pub partBy : ℕ → List ℕ → List ℕ
 partBy zero part = part
 partBy (suc n) part = []
 
+-- the whole nominal block, as a part of the image
 unfoldable pub wholeBlock : Grid → List ℕ → ℕ → ℕ → List ℕ
 wholeBlock g image row column = partBy (wholeNumber g (length image) row column) (nominalBytes (g .imode) g image row column)
 
@@ -146,5 +148,6 @@ windowOf g numbers n w out =
     (sampleBytes g) (bandCount (g .bands) (w .bands)) (w .rows) (w .columns)
     (λ k r c. numbers (bandAt (w .bands) k) (w .row + r) (w .column + c)) out
 
+-- the window: a rectangle of the picture out of an image
 unfoldable pub window : Grid → List ℕ → Window → List ℕ → Filled
 window g image w out = windowOf g (pictureAt g image) (length image) w out

@@ -94,6 +94,7 @@ unfoldable pub startBy : ℕ → Grid → List ℕ → List ℕ → Left
 startBy zero g image marks = left (number 0) (over image 0 (replicate (imageBytes g) 0)) (over marks 0 (replicate (markWords (blocks g)) 0))
 startBy (suc n) g image marks = left (number (suc n)) image marks
 
+-- start
 unfoldable pub start : Grid → List ℕ → List ℕ → Left
 start g image marks = startBy (startNumber g (length image) (length marks)) g image marks
 
@@ -125,24 +126,29 @@ storeBy false g row column dat image = putBlock g row column dat (clearRuns g ro
 abbrev pub storeBlock : Grid → ℕ → ℕ → List ℕ → List ℕ → List ℕ
 storeBlock g row column dat image = storeBy (byteMultiple g) g row column dat image
 
+-- what a write leaves, by its number
 unfoldable pub writeBy : ℕ → Grid → List ℕ → List ℕ → ℕ → ℕ → List ℕ → Left
 writeBy zero g image marks row column dat = left (number 0) (storeBlock g row column dat image) (mark marks (blockIndex g row column))
 writeBy (suc n) g image marks row column dat = left (number (suc n)) image marks
 
+-- write: the block's samples stored and its mark set
 unfoldable pub write : Grid → List ℕ → List ℕ → ℕ → ℕ → ℕ → ℕ → ℕ → List ℕ → Left
 write g image marks row column bands rows columns dat =
     writeBy (writeNumber g (length image) (length marks) row column bands rows columns (length dat)) g image marks row column dat
 
+-- what a skip leaves, by its number
 unfoldable pub skipBy : ℕ → Grid → List ℕ → List ℕ → ℕ → ℕ → Left
 skipBy zero g image marks row column = left (number 0) image (mark marks (blockIndex g row column))
 skipBy (suc n) g image marks row column = left (number (suc n)) image marks
 
+-- skip: the block's mark set, its bytes kept
 unfoldable pub skip : Grid → List ℕ → List ℕ → ℕ → ℕ → Left
 skip g image marks row column = skipBy (skipNumber g (length image) (length marks) row column) g image marks row column
 
--- progress and finish change nothing
+-- progress, which changes nothing: how many blocks are marked
 unfoldable pub progress : Grid → List ℕ → Answer
 progress g marks = progressAnswer (progressNumber g (length marks)) g (marked marks)
 
+-- finish, which changes nothing: is every block marked, else the first that is not
 unfoldable pub finish : Grid → List ℕ → List ℕ → Answer
 finish g image marks = finishAnswer (finishNumber g (length image) (length marks)) g (marked marks)

@@ -45,6 +45,7 @@ placeBy false g row column b r c =
     let n : ℕ = ordinal (g .imode) (g .bands) v h b r c in
     8 * runByte (g .imode) g (blockIndex g row column) (n / (v * h)) + n % (v * h) * g .nbpp
 
+-- where a sample lies: its first bit
 unfoldable pub place : Grid → ℕ → ℕ → ℕ → ℕ → ℕ → ℕ
 place g row column b r c = placeBy (byteMultiple g) g row column b r c
 
@@ -54,6 +55,7 @@ blockEndBy true g row column =
     sampleByte (g .imode) g (blockIndex g row column) (g .bands - 1) (actualRows g row - 1) (actualColumns g column - 1) + sampleBytes g
 blockEndBy false g row column = runByte (g .imode) g (blockIndex g row column) (g .bands - 1) + bandBytes g
 
+-- where the data of a block ends
 unfoldable pub blockEnd : Grid → ℕ → ℕ → ℕ
 blockEnd g row column = blockEndBy (byteMultiple g) g row column
 

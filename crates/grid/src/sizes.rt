@@ -41,7 +41,7 @@ impl Grid {
         self.nominal_bytes()
     }
 
-    // The same, as question 4 asks it.
+    // The same where questions 3 and 4 are still to be asked.
     pub fn nominal_bytes(self) -> usize
         requires { ⌜ (q1 self ≡ true) × (q2 self ≡ true) ⌝ }
         ensures { λ r. ⌜ r ≡ bandBytes self ⌝ }

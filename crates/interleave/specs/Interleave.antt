@@ -64,6 +64,7 @@ reorderBy zero from to bs rows columns bands s dat out =
     }
 reorderBy (suc k) from to bs rows columns bands s dat out = record { answer = refusal (suc k); out = out }
 
+-- data in the order of one mode reordered to that of another, of the bands asked for
 unfoldable pub reorder : InterleaveMode → InterleaveMode → Bands → ℕ → ℕ → ℕ → ℕ → List ℕ → List ℕ → ReorderedOut
 reorder from to bs rows columns bands s dat out =
     reorderBy (reorderNumber bs rows columns bands s (length dat) (length out)) from to bs rows columns bands s dat out

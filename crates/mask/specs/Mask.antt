@@ -81,6 +81,7 @@ unfoldable pub parseBy : ℕ → Grid → List ℕ → Parsed
 parseBy zero g table = record { number = 0; mask = header table; used = maskSize g (header table) }
 parseBy (suc n) g table = record { number = suc n; mask = noMask; used = 0 }
 
+-- parse
 unfoldable pub parse : Grid → List ℕ → Parsed
 parse g table = parseBy (parseNumber g table) g table
 
@@ -104,6 +105,7 @@ unfoldable pub presentBy : ℕ → Bool → Present
 presentBy zero present = record { number = 0; present = present }
 presentBy (suc n) present = record { number = suc n; present = false }
 
+-- lookup: is a band of a block present
 unfoldable pub hasBlock : Grid → List ℕ → ℕ → ℕ → ℕ → Present
 hasBlock g table row column band = presentBy (lookupNumber g table row column band) (isPresent g table row column band)
 
@@ -118,6 +120,7 @@ offsetBy zero true offset = record { number = 0; given = true; offset = offset }
 offsetBy zero false offset = record { number = 0; given = false; offset = 0 }
 offsetBy (suc n) given offset = record { number = suc n; given = false; offset = 0 }
 
+-- lookup: the offset of a band of a block
 unfoldable pub getBlockOffset : Grid → List ℕ → ℕ → ℕ → ℕ → BlockOffset
 getBlockOffset g table row column band =
     offsetBy (lookupNumber g table row column band) (isGiven g table row column band)
@@ -146,6 +149,7 @@ writeBy zero g mask blockOffsets padOffsets out =
     record { answer = record { number = 0; bytes = maskSize g mask }; out = over out 0 (tableBytes g mask blockOffsets padOffsets) }
 writeBy (suc n) g mask blockOffsets padOffsets out = record { answer = record { number = suc n; bytes = 0 }; out = out }
 
+-- mask write: the table put at the front of the output
 unfoldable pub toBytes : Grid → ImageDataMask → List ℕ → List ℕ → List ℕ → WrittenOut
 toBytes g mask blockOffsets padOffsets out =
     writeBy (writeNumber g mask (length blockOffsets) (length padOffsets) (length out)) g mask blockOffsets padOffsets out
@@ -183,5 +187,6 @@ fromMarksBy zero g marks out =
     record { answer = record { number = 0; mask = marksMask; used = records g }; out = over out 0 (markRecords g marks (records g)) }
 fromMarksBy (suc n) g marks out = record { answer = record { number = suc n; mask = noMask; used = 0 }; out = out }
 
+-- the mask from marks, filled into the front of the lent words
 unfoldable pub fromProvidedBlocks : Grid → List ℕ → List ℕ → MarksOut
 fromProvidedBlocks g marks out = fromMarksBy (fromMarksNumber g (length marks) (length out)) g marks out

@@ -1,4 +1,4 @@
-// Reads every block of a small picture in every mode at eleven widths, then asks what document 01 makes of listed bands,
+// Reads every block of a small picture in every mode at eleven widths by a reader, then asks what document 01 makes of listed bands,
 // refusals and short files, and prints the answers. tools/expected_blocks.py works out what it must print.
 use grid::Grid;
 use grid::InterleaveMode;
@@ -45,7 +45,7 @@ fn print_block(image: &[u8], i: usize, width: u32, row: u32, column: u32) {
     let mut out = [0xAAu8; 130];
     let none: [u32; 0] = [];
     let grid = picture(i, width);
-    let shape = reading::decode_block(image, grid, row, column, 0, true, &none, &mut out);
+    let shape = reader::read_block(image, grid, row, column, 0, true, &none, &mut out);
     print_read(shape, &out);
 }
 
