@@ -14,11 +14,15 @@ static void check(const char *what, bool holds) {
     }
 }
 
-/* A copy of n bytes that is exactly n bytes long; kept until the program ends. */
+/* A copy of n bytes that is exactly n bytes long; kept until the program ends. For n = 0 it is the end of some bytes:
+   a pointer that is not null, with nothing behind it. */
 static void *copy_of(const void *bytes, size_t n) {
-    void *p = malloc(n);
-    if (p == NULL) abort();
-    return memcpy(p, bytes, n);
+    char *p = malloc(n > 0 ? n : 8);
+    if (p == NULL) {
+        printf("failed: no memory\n");
+        exit(1);
+    }
+    return n > 0 ? memcpy(p, bytes, n) : p + 8;
 }
 
 /* Lets a test write { .. } for a buffer of exact size. */
@@ -27,23 +31,60 @@ static void *copy_of(const void *bytes, size_t n) {
 /* Picture 3 rows by 5 columns, blocks 2 rows by 4 columns, 2 bands, NBPP 8. */
 #define SMALL(mode) 3, 5, 2, 8, mode, 4, 2, 2, 2
 
-static void reads(void) {
-    uint8_t numbers[64], *out = LENT(uint8_t, 0xAA, 0xAA);
-    const uint32_t *twice = LENT(uint32_t, 1, 1), *high = LENT(uint32_t, 2);
+/* The bytes 0, 1, 2 and so on. */
+static const uint8_t *counting(size_t n) {
+    uint8_t numbers[64];
     for (int i = 0; i < 64; i++) numbers[i] = (uint8_t)i;
-    const uint8_t *image = copy_of(numbers, 64), *first_50 = copy_of(numbers, 50), *first_49 = copy_of(numbers, 49);
-    struct gezdunar_shape s = gezdunar_decode_block(first_50, 50, SMALL('P'), 1, 1, 0, true, high, 1, out, 2);
-    check("figure e", s.number == 0 && s.bands == 2 && s.rows == 1 && s.columns == 1 && out[0] == 48 && out[1] == 49);
-    out[0] = out[1] = 0xAA;
-    s = gezdunar_decode_block(first_49, 49, SMALL('P'), 1, 1, 0, true, high, 1, out, 2);
-    check("figure f", s.number == 7 && s.bands == 0 && out[0] == 0xAA && out[1] == 0xAA);
-    check("figure g", gezdunar_decode_block(image, 64, SMALL('P'), 2, 0, 0, true, high, 1, out, 2).number == 6);
+    return copy_of(numbers, n);
+}
+
+static bool has_shape(struct gezdunar_shape s, size_t bands, size_t rows, size_t columns) {
+    return s.number == 0 && s.bands == bands && s.rows == rows && s.columns == columns;
+}
+
+static bool refused(struct gezdunar_shape s, uint32_t number) {
+    return s.number == number && s.bands == 0 && s.rows == 0 && s.columns == 0;
+}
+
+static bool pair(const uint8_t *out, uint8_t first, uint8_t second) { return out[0] == first && out[1] == second; }
+
+/* Block (1,1) in each mode. */
+static void figures_a_to_d(void) {
+    static const struct { const char *name; uint8_t mode, first, second; } figures[4] = {
+        {"figure a", 'B', 48, 56}, {"figure b", 'P', 48, 49}, {"figure c", 'R', 48, 52}, {"figure d", 'S', 24, 56}};
+    const uint8_t *image = counting(64);
+    const uint32_t *none = copy_of(NULL, 0);
+    for (int i = 0; i < 4; i++) {
+        uint8_t *out = LENT(uint8_t, 0xAA, 0xAA);
+        struct gezdunar_shape s = gezdunar_decode_block(image, 64, SMALL(figures[i].mode), 1, 1, 0, true, none, 0, out, 2);
+        check(figures[i].name, has_shape(s, 2, 1, 1) && pair(out, figures[i].first, figures[i].second));
+    }
+}
+
+static void figures_e_to_j(void) {
+    uint8_t *out = LENT(uint8_t, 0xAA, 0xAA), *kept = LENT(uint8_t, 0xAA, 0xAA), *empty = copy_of(NULL, 0);
+    const uint32_t *twice = LENT(uint32_t, 1, 1), *high = LENT(uint32_t, 2), *none = copy_of(NULL, 0);
+    const uint8_t *image = counting(64);
+    struct gezdunar_shape s = gezdunar_decode_block(counting(50), 50, SMALL('P'), 1, 1, 0, true, high, 1, out, 2);
+    check("figure e", has_shape(s, 2, 1, 1) && pair(out, 48, 49));
+    s = gezdunar_decode_block(counting(49), 49, SMALL('P'), 1, 1, 0, true, high, 1, kept, 2);
+    check("figure f", refused(s, 7));
+    s = gezdunar_decode_block(image, 64, SMALL('P'), 2, 0, 0, true, high, 1, kept, 2);
+    check("figure g", refused(s, 6));
     s = gezdunar_decode_block(image, 64, SMALL('P'), 1, 1, 0, false, twice, 2, out, 2);
-    check("figure h", s.number == 0 && s.bands == 2 && out[0] == 49 && out[1] == 49);
-    check("figure i", gezdunar_decode_block(image, 64, SMALL('P'), 1, 1, 0, false, high, 1, out, 2).number == 8);
-    s = gezdunar_decode_block(image, 64, SMALL('P'), 1, 1, 0, false, high, 0, out, 2);
-    check("figure j", s.number == 0 && s.bands == 0 && s.rows == 1 && s.columns == 1);
-    check("no mode", gezdunar_decode_block(image, 64, SMALL('Q'), 1, 1, 0, true, high, 0, out, 2).number == 99);
+    check("figure h", has_shape(s, 2, 1, 1) && pair(out, 49, 49));
+    s = gezdunar_decode_block(image, 64, SMALL('P'), 1, 1, 0, false, high, 1, kept, 2);
+    check("figure i", refused(s, 8));
+    s = gezdunar_decode_block(image, 64, SMALL('P'), 1, 1, 0, false, none, 0, empty, 0);
+    check("figure j", has_shape(s, 0, 1, 1));
+    s = gezdunar_decode_block(image, 64, SMALL('Q'), 1, 1, 0, true, none, 0, kept, 2);
+    check("no mode", refused(s, 99));
+    check("a refused read writes nothing", pair(kept, 0xAA, 0xAA));
+}
+
+static void reads(void) {
+    const uint8_t *image = counting(64);
+    const uint32_t *none = copy_of(NULL, 0);
     check("grid", gezdunar_grid_check(SMALL('S')) == 0 && gezdunar_grid_check(3, 5, 2, 17, 'B', 4, 2, 2, 2) == 2);
     struct gezdunar_sizes z = gezdunar_grid_sizes(SMALL('S'));
     check("sizes", z.number == 0 && z.sample_bytes == 1 && z.band_bytes == 8 && z.block_bytes == 16 && z.image_bytes == 64
@@ -54,9 +95,32 @@ static void reads(void) {
     p = gezdunar_whole_block(image, 64, SMALL('S'), 1, 0);
     check("whole block in S", p.number == 0 && p.start == 0 && p.length == 0);
     uint8_t *window = LENT(uint8_t, 0, 0, 0, 0);
-    s = gezdunar_read_window(image, 64, SMALL('B'), 1, 3, 1, 2, true, high, 0, window, 4);
-    check("window", s.number == 0 && s.bands == 2 && s.rows == 1 && s.columns == 2 && window[0] == 7 && window[1] == 20
-        && window[2] == 15 && window[3] == 28);
+    struct gezdunar_shape s = gezdunar_read_window(image, 64, SMALL('B'), 1, 3, 1, 2, true, none, 0, window, 4);
+    check("window", has_shape(s, 2, 1, 2) && pair(window, 7, 20) && pair(window + 2, 15, 28));
+}
+
+/* Writes one row of n samples into a started image, and reads it again. */
+static bool row_is_packed(uint32_t nbpp, uint32_t n, const uint8_t *data, size_t data_length, const uint8_t *packed,
+                          size_t packed_length) {
+    uint8_t *image = copy_of(packed, packed_length), *out = copy_of(data, data_length);
+    uint64_t *marks = LENT(uint64_t, ~(uint64_t)0);
+    const uint32_t *none = copy_of(NULL, 0);
+    memset(image, 0xFF, packed_length);
+    memset(out, 0xFF, data_length);
+    uint32_t start = gezdunar_start(image, packed_length, marks, 1, 1, n, 1, nbpp, 'B', n, 1, 1, 1).number;
+    uint32_t write = gezdunar_encode_block(image, packed_length, marks, 1, 1, n, 1, nbpp, 'B', n, 1, 1, 1, 0, 0, 1, 1, n,
+                                           data, data_length).number;
+    struct gezdunar_shape s = gezdunar_decode_block(image, packed_length, 1, n, 1, nbpp, 'B', n, 1, 1, 1, 0, 0, 0, true,
+                                                    none, 0, out, data_length);
+    return start == 0 && write == 0 && *marks == 1 && memcmp(image, packed, packed_length) == 0 && has_shape(s, 1, 1, n)
+        && memcmp(out, data, data_length) == 0;
+}
+
+static void figures_k_and_l(void) {
+    const uint8_t *three = LENT(uint8_t, 0x01, 0x23, 0x04, 0x56, 0x07, 0x89);
+    check("figure k", row_is_packed(12, 3, three, 6, LENT(uint8_t, 0x12, 0x34, 0x56, 0x78, 0x90), 5));
+    const uint8_t *ten = LENT(uint8_t, 1, 0, 1, 1, 0, 0, 0, 1, 1, 1);
+    check("figure l", row_is_packed(1, 10, ten, 10, LENT(uint8_t, 0xB1, 0xC0), 2));
 }
 
 /* NBPP 4, picture 2 by 3, blocks 2 by 2. */
@@ -70,20 +134,20 @@ static void writes(void) {
     struct gezdunar_answer a = gezdunar_finalize(image, 4, marks, 1, 2, 3, 1, 4, 'B', 2, 2, 2, 1);
     check("hole", a.number == 15 && a.first == 0 && a.second == 0);
     check("skip", gezdunar_skip_block(image, 4, marks, 1, 2, 3, 1, 4, 'B', 2, 2, 2, 1, 0, 0).number == 0);
-    check("progress", gezdunar_progress(marks, 1, 2, 3, 1, 4, 'B', 2, 2, 2, 1).first == 2);
+    a = gezdunar_progress(marks, 1, 2, 3, 1, 4, 'B', 2, 2, 2, 1);
+    check("progress", a.number == 0 && a.first == 2);
     check("finish", gezdunar_finalize(image, 4, marks, 1, 2, 3, 1, 4, 'B', 2, 2, 2, 1).number == 0);
     check("start", gezdunar_start(small, 2, marks, 1, 1, 1, 1, 12, 'P', 1, 1, 1, 1).number == 0);
     check("write", gezdunar_encode_block(small, 2, marks, 1, 1, 1, 1, 12, 'P', 1, 1, 1, 1, 0, 0, 1, 1, 1, wide, 2).number == 0);
-    check("figure k", small[0] == 0x12 && small[1] == 0x30);
+    check("figure k, sample F123", pair(small, 0x12, 0x30));
 }
 
 /* Two blocks in B, the second empty. */
 static void masks(void) {
     static const uint8_t paper[18] = {0, 0, 0, 0x12, 0, 4, 0, 0, 0, 0, 0, 0, 0, 0, 0xFF, 0xFF, 0xFF, 0xFF};
     const uint64_t *marks = LENT(uint64_t, 1);
-    uint32_t *offsets = LENT(uint32_t, 7, 7), *none = malloc(0);
-    uint8_t *table = malloc(18);
-    if (table == NULL || none == NULL) abort();
+    uint32_t *offsets = LENT(uint32_t, 7, 7), *none = copy_of(NULL, 0);
+    uint8_t *table = copy_of((const uint8_t[18]){0}, 18);
     struct gezdunar_parsed m = gezdunar_mask_from_marks(marks, 1, 1, 2, 1, 8, 'B', 1, 1, 2, 1, offsets, 2);
     check("mask from marks", m.number == 0 && m.used == 2 && m.mask.block_mask_record_length == 4 && offsets[0] == 0
         && offsets[1] == 0xFFFFFFFF);
@@ -92,10 +156,14 @@ static void masks(void) {
     m = gezdunar_mask_parse(table, 18, 1, 2, 1, 8, 'B', 1, 1, 2, 1);
     check("parse", m.number == 0 && m.used == 18 && m.mask.image_data_offset == 18);
     check("short table", gezdunar_mask_parse(copy_of(table, 17), 17, 1, 2, 1, 8, 'B', 1, 1, 2, 1).number == 19);
-    check("present", gezdunar_has_block(table, 18, 1, 2, 1, 8, 'B', 1, 1, 2, 1, 0, 0, 0).present);
-    check("empty", !gezdunar_has_block(table, 18, 1, 2, 1, 8, 'B', 1, 1, 2, 1, 0, 1, 0).present);
+    struct gezdunar_present h = gezdunar_has_block(table, 18, 1, 2, 1, 8, 'B', 1, 1, 2, 1, 0, 0, 0);
+    check("present", h.number == 0 && h.present);
+    h = gezdunar_has_block(table, 18, 1, 2, 1, 8, 'B', 1, 1, 2, 1, 0, 1, 0);
+    check("empty", h.number == 0 && !h.present);
     struct gezdunar_block_offset o = gezdunar_get_block_offset(table, 18, 1, 2, 1, 8, 'B', 1, 1, 2, 1, 0, 0, 0);
     check("offset", o.number == 0 && o.given && o.offset == 0);
+    o = gezdunar_get_block_offset(table, 18, 1, 2, 1, 8, 'B', 1, 1, 2, 1, 0, 1, 0);
+    check("no offset", o.number == 0 && !o.given);
 }
 
 static void reorderings(void) {
@@ -111,7 +179,10 @@ static void reorderings(void) {
 }
 
 int main(void) {
+    figures_a_to_d();
+    figures_e_to_j();
     reads();
+    figures_k_and_l();
     writes();
     masks();
     reorderings();

@@ -1,8 +1,9 @@
-//! Every call on arguments of any kind: none panics, and a refused one leaves every lent byte as it was.
+//! Every call on arguments of any kind: none panics, and a refused one leaves every lent byte as it was. Whole blocks,
+//! progress, finish, parse and lookup answer as expected.
 
 mod common;
 
-use common::exact;
+use common::{exact, expected};
 use gezdunar::{
     decode_block, decode_block_vec, encode_block, finalize, from_band_sequential, from_band_sequential_vec,
     fused_bip_to_bsq, fused_bip_to_bsq_vec, get_block_offset, has_block, mask_from_marks, mask_from_marks_vec,
@@ -67,9 +68,12 @@ impl Random {
         (0..length).map(|_| [0, 0, 0, 4, 255][self.below(5)]).collect()
     }
 
-    /// Bytes that begin with the lengths of a mask table.
+    /// Bytes that begin with the lengths of a mask table; in some every record says that its block is empty.
     fn table(&mut self) -> Box<[u8]> {
         let mut table = self.bytes();
+        if self.below(4) == 0 {
+            table.fill(255);
+        }
         if let Some(header) = table.get_mut(..10) {
             let (block, pad, bits) = ([0, 4][self.below(2)], [0, 4, 5][self.below(3)], [0, 8, 32, 33][self.below(4)]);
             header.copy_from_slice(&[0, 0, 0, 9, 0, block, 0, pad, 0, bits]);
@@ -81,8 +85,28 @@ impl Random {
         (0..self.below(4)).map(|_| self.number()).collect()
     }
 
+    /// One offset for each record, or none for another length than 4; once in four times any count.
+    fn offsets(&mut self, length: u16, records: usize) -> Box<[u32]> {
+        let count = match (self.below(4), length) {
+            (0, _) => self.below(9),
+            (_, 4) => records,
+            _ => 0,
+        };
+        (0..count).map(|_| self.number()).collect()
+    }
+
     fn marks(&mut self) -> Box<[u64]> {
-        (0..self.below(3)).map(|_| u64::MAX >> self.below(64)).collect()
+        (0..self.below(3)).map(|_| self.word()).collect()
+    }
+
+    /// All ones, the lowest ones, all ones but one of the lowest 16, or any word.
+    fn word(&mut self) -> u64 {
+        match self.below(4) {
+            0 => u64::MAX,
+            1 => u64::MAX >> self.below(64),
+            2 => !(1 << self.below(16)),
+            _ => (self.below(1 << 31) as u64) << 33 | self.below(1 << 31) as u64,
+        }
     }
 }
 
@@ -117,10 +141,19 @@ fn alike<A>(number: u32, vector: Result<A, Refusal>) {
     }
 }
 
+/// Compares a whole block with what is expected, its place too. Has it bytes?
+fn whole_block_holds(image: &[u8], grid: &Grid, row: u32, column: u32) -> bool {
+    let (part, expected) = (whole_block(image, grid, row, column), expected::whole_block(image, grid, row, column));
+    assert_eq!(part, expected, "{grid:?}");
+    let bytes = part.unwrap_or_default();
+    assert!(bytes.is_empty() || expected.is_ok_and(|expected| expected.as_ptr() == bytes.as_ptr()), "{grid:?}");
+    !bytes.is_empty()
+}
+
 #[test]
 fn reads() {
     let mut random = Random(1);
-    let mut accepted = 0;
+    let (mut accepted, mut whole) = (0, 0);
     for _ in 0..3_000 {
         let (grid, image, out, list) = (random.grid(), random.bytes(), random.bytes(), random.list());
         let (row, column, level) = (random.number(), random.number(), random.number() / 4);
@@ -132,15 +165,23 @@ fn reads() {
         let number = kept(&out, |out| read_window(&image, &grid, window, bands, out));
         alike(number, read_window_vec(&image, &grid, window, bands));
         accepted += u32::from(number == 0);
-        let _ = whole_block(&image, &grid, row, column);
+        whole += u32::from(whole_block_holds(&image, &grid, row, column));
     }
-    assert!(accepted > 200, "{accepted} accepted");
+    assert!(accepted > 200 && whole > 200, "{accepted} accepted, {whole} whole blocks");
+}
+
+/// Compares progress and finalize with what is expected. Are some blocks marked, and are all?
+fn marks_hold(image: &[u8], marks: &[u64], grid: &Grid) -> [bool; 2] {
+    let (count, finish) = (progress(marks, grid), finalize(image, marks, grid));
+    assert_eq!(count, expected::progress(marks, grid), "{marks:x?}, {grid:?}");
+    assert_eq!(finish, expected::finalize(image, marks, grid), "{marks:x?}, {grid:?}");
+    [count.is_ok_and(|count| count > 0), finish.is_ok()]
 }
 
 #[test]
 fn writes() {
     let mut random = Random(2);
-    let mut accepted = 0;
+    let (mut accepted, mut counted, mut finished) = (0, 0, 0);
     for _ in 0..3_000 {
         let (grid, image, marks) = (random.grid(), random.bytes(), random.marks());
         let (row, column) = (random.number(), random.number());
@@ -151,12 +192,14 @@ fn writes() {
         let write = |image: &mut [u8], marks: &mut [u64]| encode_block(image, marks, &grid, row, column, shape, &data);
         accepted += u32::from(kept(&image, |image| kept_marks(&marks, |marks| write(image, marks))) == 0);
         accepted += u32::from(kept(&marks, |marks| skip_block(&image, marks, &grid, row, column)) == 0);
-        let _ = (progress(&marks, &grid), finalize(&image, &marks, &grid));
+        let [some, all] = marks_hold(&image, &marks, &grid);
+        (counted, finished) = (counted + u32::from(some), finished + u32::from(all));
         if grid.sizes().is_ok_and(|sizes| sizes.image_bytes < 1 << 20) {
             assert!(Frame::new(grid).is_ok());
         }
     }
-    assert!(accepted > 500, "{accepted} accepted");
+    let enough = accepted > 500 && counted > 500 && finished > 100;
+    assert!(enough, "{accepted} accepted, {counted} counted, {finished} finished");
 }
 
 /// Calls with a copy of the marks, which must be as before where it is refused.
@@ -167,34 +210,53 @@ fn kept_marks(before: &[u64], call: impl FnOnce(&mut [u64]) -> Result<(), Refusa
     answer
 }
 
+/// Compares parse and lookup with what is expected. Are they accepted?
+fn table_holds(table: &[u8], grid: &Grid, [row, column, band]: [u32; 3]) -> [bool; 2] {
+    let parsed = mask_parse(table, grid);
+    assert_eq!(parsed, expected::mask_parse(table, grid), "{grid:?}");
+    let lookup = expected::lookup(table, grid, row, column, band);
+    assert_eq!(has_block(table, grid, row, column, band), lookup.map(|(present, _)| present), "{grid:?}");
+    assert_eq!(get_block_offset(table, grid, row, column, band), lookup.map(|(_, offset)| offset), "{grid:?}");
+    [parsed.is_ok(), lookup.is_ok()]
+}
+
+#[test]
+fn tables() {
+    let mut random = Random(5);
+    let (mut accepted, mut looked_up) = (0, 0);
+    for _ in 0..6_000 {
+        let (grid, table) = (random.grid(), random.table());
+        let [parsed, lookup] = table_holds(&table, &grid, [0; 3].map(|_| random.number()));
+        (accepted, looked_up) = (accepted + u32::from(parsed), looked_up + u32::from(lookup));
+    }
+    assert!(accepted > 500 && looked_up > 100, "{accepted} parsed, {looked_up} looked up");
+}
+
 #[test]
 fn masks() {
     let mut random = Random(3);
     let mut accepted = 0;
     for _ in 0..3_000 {
-        let (grid, table, out, marks) = (random.grid(), random.table(), random.bytes(), random.marks());
+        let (grid, out, marks) = (random.grid(), random.bytes(), random.marks());
         let count = grid.sizes().map_or(0, |sizes| sizes.blocks.min(50));
-        let (blocks, pads, words) = (exact(&vec![5; count]), random.list(), exact(&vec![7; count]));
+        let [block, pad] = [[0, 4, 4, 5], [0, 0, 4, 65_535]].map(|lengths: [u16; 4]| lengths[random.below(4)]);
+        let ([blocks, pads], words) = ([block, pad].map(|n| random.offsets(n, count)), exact(&vec![7; count]));
         let mask = ImageDataMask {
             image_data_offset: random.number(),
-            block_mask_record_length: [0, 4, 4, 5][random.below(4)],
-            pad_pixel_mask_record_length: [0, 0, 4, 65_535][random.below(4)],
+            block_mask_record_length: block,
+            pad_pixel_mask_record_length: pad,
             pad_pixel_code_length: [0, 8, 32, 65_535][random.below(4)],
             pad_pixel_code: random.number(),
         };
-        let (row, column, band) = (random.number(), random.number(), random.number());
-        let _ = mask_parse(&table, &grid);
-        let present = has_block(&table, &grid, row, column, band);
-        assert_eq!(present.err(), get_block_offset(&table, &grid, row, column, band).err());
         let number = kept(&out, |out| mask_write(&grid, &mask, &blocks, &pads, out));
         alike(number, mask_write_vec(&grid, &mask, &blocks, &pads));
-        accepted += u32::from(number == 0) + u32::from(present.is_ok());
+        accepted += u32::from(number == 0);
         let number = kept(&words, |words| mask_from_marks(&marks, &grid, words));
         if grid.bands < 1_000 {
             alike(number, mask_from_marks_vec(&marks, &grid));
         }
     }
-    assert!(accepted > 100, "{accepted} accepted");
+    assert!(accepted > 100, "{accepted} written");
 }
 
 #[test]

@@ -2,7 +2,7 @@
 
 mod common;
 
-use common::{block_samples, blocks, refused_grids, samples, shape, small, WIDTHS};
+use common::{block_samples, blocks, exact, refused_grids, samples, shape, small, WIDTHS};
 use gezdunar::{decode_block_vec, read_window_vec, Bands, Frame, Grid, InterleaveMode, Refusal, Window};
 
 /// Writes the plain picture, the last block first and each block twice.
@@ -12,7 +12,7 @@ fn written(grid: Grid) -> Frame {
     for (count, (row, column)) in blocks(&grid).into_iter().rev().enumerate() {
         assert_eq!(frame.progress(), Ok(count));
         let (shape, data) = (grid.block_shape(row, column), block_samples(&grid, &bands, row, column));
-        assert_eq!(frame.encode_block(row, column, shape, &vec![0xFF; data.len()]), Ok(()));
+        assert_eq!(frame.encode_block(row, column, shape, &exact(&vec![0xFF; data.len()])), Ok(()));
         assert_eq!(frame.encode_block(row, column, shape, &data), Ok(()));
     }
     assert_eq!(frame.finalize(), Ok(()));
@@ -21,18 +21,18 @@ fn written(grid: Grid) -> Frame {
 
 /// Compares blocks and windows of a written frame with the plain picture.
 fn read_again(frame: &Frame, list: &[u32]) {
-    let (grid, image) = (frame.grid(), frame.image());
-    let bands = Bands::Listed(list);
+    let (grid, image, lent) = (frame.grid(), frame.image(), exact(list));
+    let bands = Bands::Listed(&lent);
     for (row, column) in blocks(grid) {
         let (shape, read) = decode_block_vec(image, grid, row, column, 0, bands).expect("an accepted read");
-        assert_eq!((shape.rows, shape.columns), (grid.actual_rows(row), grid.actual_columns(column)));
-        assert_eq!(read, block_samples(grid, list, row, column));
+        assert_eq!(shape, common::shape(list.len(), grid.actual_rows(row), grid.actual_columns(column)));
+        assert_eq!(read, *block_samples(grid, list, row, column));
     }
     for (row, column, rows, columns) in [(0, 0, 5, 7), (1, 2, 3, 4), (4, 6, 1, 1), (2, 3, 2, 3), (0, 0, 1, 7)] {
         let window = Window { row, column, rows, columns };
         let (shape, read) = read_window_vec(image, grid, window, bands).expect("an accepted window");
         assert_eq!(shape, common::shape(list.len(), rows as usize, columns as usize));
-        assert_eq!(read, samples(grid, list, row as usize, column as usize, rows as usize, columns as usize));
+        assert_eq!(read, *samples(grid, list, row as usize, column as usize, rows as usize, columns as usize));
     }
 }
 
@@ -82,9 +82,9 @@ fn a_grid_that_is_refused_gives_no_frame() {
 fn refused_calls_leave_the_frame_as_it_was() {
     let mut frame = written(small(InterleaveMode::R));
     let before = frame.clone();
-    assert_eq!(frame.encode_block(2, 0, shape(2, 1, 1), &[1, 2]).map_err(Refusal::number), Err(6));
-    assert_eq!(frame.encode_block(1, 1, shape(1, 1, 1), &[1]).map_err(Refusal::number), Err(13));
-    assert_eq!(frame.encode_block(1, 1, shape(2, 1, 1), &[1]).map_err(Refusal::number), Err(14));
+    assert_eq!(frame.encode_block(2, 0, shape(2, 1, 1), &exact(&[1, 2])).map_err(Refusal::number), Err(6));
+    assert_eq!(frame.encode_block(1, 1, shape(1, 1, 1), &exact(&[1])).map_err(Refusal::number), Err(13));
+    assert_eq!(frame.encode_block(1, 1, shape(2, 1, 1), &exact(&[1])).map_err(Refusal::number), Err(14));
     assert_eq!(frame.skip_block(0, 2).map_err(Refusal::number), Err(6));
     assert_eq!(frame, before);
 }
@@ -92,7 +92,7 @@ fn refused_calls_leave_the_frame_as_it_was() {
 #[test]
 fn a_skipped_block_keeps_its_bytes() {
     let mut frame = Frame::new(small(InterleaveMode::B)).expect("an accepted grid");
-    frame.encode_block(0, 1, shape(2, 2, 1), &[1, 2, 3, 4]).expect("an accepted block");
+    frame.encode_block(0, 1, shape(2, 2, 1), &exact(&[1, 2, 3, 4])).expect("an accepted block");
     let image = frame.image().to_vec();
     for (row, column) in blocks(&small(InterleaveMode::B)) {
         assert_eq!(frame.skip_block(row, column), Ok(()));

@@ -64,10 +64,15 @@ fn question_3() {
 
 #[test]
 fn question_4() {
-    // A band takes 65,537 bytes; with 65,535 bands the image has 4,294,967,295.
-    let grid = Grid::new(191, 2_745, 65_534, 1, InterleaveMode::B, 2_745, 191);
-    assert_eq!(grid.sizes().map(|sizes| sizes.image_bytes), Ok(65_537 * 65_534));
-    assert_eq!(number(Grid { bands: 65_535, ..grid }), 4);
+    // 4,294,967,294 is 2 times a prime that is larger than every count and every band of a block.
+    let largest = Grid::new(1_143, 3_253, 9_241, 1, InterleaveMode::B, 3_253, 1_143);
+    assert_eq!(largest.sizes().map(|sizes| (sizes.band_bytes, sizes.image_bytes)), Ok((464_773, 4_294_967_293)));
+    // 4,294,967,295 bytes: 65,535 bands of 65,537 bytes, and 15 by 4,369 blocks of 65,537 bands of one byte.
+    let bands = Grid::new(191, 2_745, 65_535, 1, InterleaveMode::B, 2_745, 191);
+    let fewer = Grid { bands: 65_534, ..bands }.sizes();
+    assert_eq!((number(bands), fewer.map(|sizes| sizes.image_bytes)), (4, Ok(65_537 * 65_534)));
+    assert_eq!(number(Grid::new(15, 4_369, 65_537, 8, InterleaveMode::S, 1, 1)), 4);
+    assert_eq!(number(Grid::new(15, 4_369, 65_536, 8, InterleaveMode::S, 1, 1)), 0);
 }
 
 #[test]

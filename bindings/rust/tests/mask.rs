@@ -30,9 +30,9 @@ fn figure_n() {
     let (header, offsets) = mask_from_marks_vec(&exact(&[1]), &two_blocks()).expect("marks for two blocks");
     assert_eq!((header, &offsets[..]), (mask(4, 0, 0, 0), &[0, EMPTY_BLOCK_OFFSET][..]));
     let mut table = exact(&[0xAA; 18]);
-    assert_eq!(mask_write(&two_blocks(), &header, &exact(&offsets), &[], &mut table), Ok(18));
+    assert_eq!(mask_write(&two_blocks(), &header, &exact(&offsets), &exact(&[]), &mut table), Ok(18));
     assert_eq!(*table, FIGURE_N);
-    assert_eq!(mask_write_vec(&two_blocks(), &header, &offsets, &[]), Ok(FIGURE_N.to_vec()));
+    assert_eq!(mask_write_vec(&two_blocks(), &header, &exact(&offsets), &exact(&[])), Ok(FIGURE_N.to_vec()));
 }
 
 #[test]
@@ -80,7 +80,7 @@ fn a_table_with_a_code_and_both_lists_comes_back() {
 fn codes_of_every_length_come_back() {
     for bits in 0..=32 {
         let header = mask(0, 0, bits, (1u64 << (8 * bits.div_ceil(8))).wrapping_sub(1) as u32);
-        let table = mask_write_vec(&two_blocks(), &header, &[], &[]).expect("an accepted table");
+        let table = mask_write_vec(&two_blocks(), &header, &exact(&[]), &exact(&[])).expect("an accepted table");
         assert_eq!(table.len(), 10 + bits.div_ceil(8) as usize);
         let header = ImageDataMask { image_data_offset: table.len() as u32, ..header };
         assert_eq!(mask_parse(&exact(&table), &two_blocks()), Ok(Parsed { mask: header, used: table.len() }));
@@ -90,7 +90,7 @@ fn codes_of_every_length_come_back() {
 #[test]
 fn a_longer_output_keeps_its_rest() {
     let mut out = exact(&[0xAA; 12]);
-    assert_eq!(mask_write(&two_blocks(), &mask(0, 0, 0, 0), &[], &[], &mut out), Ok(10));
+    assert_eq!(mask_write(&two_blocks(), &mask(0, 0, 0, 0), &exact(&[]), &exact(&[]), &mut out), Ok(10));
     assert_eq!(*out, [0, 0, 0, 10, 0, 0, 0, 0, 0, 0, 0xAA, 0xAA]);
     let mut words = exact(&[7; 3]);
     assert_eq!(mask_from_marks(&exact(&[2]), &two_blocks(), &mut words).map(|parsed| parsed.used), Ok(2));
@@ -132,9 +132,9 @@ fn parse_and_lookup_refuse_tables() {
 #[test]
 fn parse_and_lookup_refuse_grids() {
     for (grid, number) in refused_grids() {
-        assert_eq!(mask_parse(&[], &grid).map_err(Refusal::number), Err(number));
-        assert_eq!(has_block(&[], &grid, 0, 0, 0).map_err(Refusal::number), Err(number));
-        assert_eq!(get_block_offset(&[], &grid, 0, 0, 0).map_err(Refusal::number), Err(number));
+        assert_eq!(mask_parse(&exact(&[]), &grid).map_err(Refusal::number), Err(number));
+        assert_eq!(has_block(&exact(&[]), &grid, 0, 0, 0).map_err(Refusal::number), Err(number));
+        assert_eq!(get_block_offset(&exact(&[]), &grid, 0, 0, 0).map_err(Refusal::number), Err(number));
     }
 }
 

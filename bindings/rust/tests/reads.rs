@@ -2,7 +2,7 @@
 
 mod common;
 
-use common::{block_samples, blocks, counting, exact, refused_grids, shape, small};
+use common::{block_samples, blocks, counting, exact, expected::block_end, refused_grids, shape, small};
 use gezdunar::{decode_block, decode_block_vec, whole_block, Bands, Frame, Grid, InterleaveMode, Refusal, Shape};
 
 /// Reads block (1,1) of document 01's picture from an image of this length, into an output of exact size.
@@ -43,9 +43,9 @@ fn figure_g() {
 #[test]
 fn figures_h_to_j() {
     for (imode, band_1) in InterleaveMode::ALL.into_iter().zip([56, 49, 52, 56]) {
-        assert_eq!(corner(imode, 64, Bands::Listed(&[1, 1])), Ok((shape(2, 1, 1), vec![band_1, band_1])));
-        assert_eq!(corner(imode, 64, Bands::Listed(&[2])), Err(8));
-        assert_eq!(corner(imode, 64, Bands::Listed(&[])), Ok((shape(0, 1, 1), vec![])));
+        assert_eq!(corner(imode, 64, Bands::Listed(&exact(&[1, 1]))), Ok((shape(2, 1, 1), vec![band_1, band_1])));
+        assert_eq!(corner(imode, 64, Bands::Listed(&exact(&[2]))), Err(8));
+        assert_eq!(corner(imode, 64, Bands::Listed(&exact(&[]))), Ok((shape(0, 1, 1), vec![])));
     }
 }
 
@@ -71,19 +71,20 @@ fn decode_block_refuses() {
     assert_eq!(refused(&grid, 64, (u32::MAX, u32::MAX), 0, Bands::All), 6);
     assert_eq!(refused(&grid, 15, (0, 0), 0, Bands::All), 7);
     assert_eq!(refused(&grid, 0, (0, 0), 0, Bands::All), 7);
-    assert_eq!(refused(&grid, 64, (0, 0), 0, Bands::Listed(&[0, 2])), 8);
+    assert_eq!(refused(&grid, 64, (0, 0), 0, Bands::Listed(&exact(&[0, 2]))), 8);
     assert_eq!(refused(&grid, 64, (0, 0), 0, Bands::All), 9);
 }
 
 #[test]
 fn decode_block_asks_in_order() {
-    let (grid, bands) = (small(InterleaveMode::P), Bands::Listed(&[2]));
+    let (grid, list) = (small(InterleaveMode::P), exact(&[2]));
+    let bands = Bands::Listed(&list);
     assert_eq!(refused(&Grid { nbpp: 0, ..grid }, 0, (9, 9), 1, bands), 2);
     assert_eq!(refused(&grid, 0, (9, 9), 1, bands), 5);
     assert_eq!(refused(&grid, 0, (9, 9), 0, bands), 6);
     assert_eq!(refused(&grid, 0, (0, 0), 0, bands), 7);
     assert_eq!(refused(&grid, 64, (0, 0), 0, bands), 8);
-    assert_eq!(refused(&grid, 64, (0, 0), 0, Bands::Listed(&[1])), 9);
+    assert_eq!(refused(&grid, 64, (0, 0), 0, Bands::Listed(&exact(&[1]))), 9);
 }
 
 #[test]
@@ -105,7 +106,7 @@ fn written(grid: Grid) -> Frame {
 }
 
 #[test]
-fn an_image_that_is_long_enough_gives_the_same_samples() {
+fn an_image_serves_a_block_from_the_end_of_the_block_on() {
     for imode in InterleaveMode::ALL {
         for nbpp in [3, 8, 12, 16, 64] {
             let frame = written(Grid::new(3, 5, 2, nbpp, imode, 2, 2));
@@ -116,26 +117,21 @@ fn an_image_that_is_long_enough_gives_the_same_samples() {
     }
 }
 
-/// Reads a block from the first bytes of an image, for every count of them: 7 up to some count, then its samples.
+/// Reads a block from the first bytes of an image, for every count of them: 7 below the block's end, then its samples.
 fn short_images(frame: &Frame, (row, column): (u32, u32)) {
-    let grid = frame.grid();
-    let expected = block_samples(grid, &[1, 0], row, column);
-    let lengths = 0..=frame.image().len();
-    let served = lengths.filter(|&length| {
+    let (grid, list) = (frame.grid(), exact(&[1, 0]));
+    let expected = block_samples(grid, &list, row, column);
+    let end = block_end(grid, row, column);
+    for length in 0..=frame.image().len() {
         let image = exact(&frame.image()[..length]);
-        match decode_block_vec(&image, grid, row, column, 0, Bands::Listed(&[1, 0])) {
-            Ok((_, samples)) => {
-                assert_eq!(samples, expected);
-                true
-            }
-            Err(refusal) => {
-                assert_eq!(refusal, Refusal::ImageEnds);
-                false
-            }
+        let answer = decode_block_vec(&image, grid, row, column, 0, Bands::Listed(&list));
+        if length < end {
+            assert_eq!(answer, Err(Refusal::ImageEnds), "{length} of {end} bytes, {grid:?}");
+        } else {
+            assert_eq!(answer, Ok((grid.block_shape(row, column), expected.to_vec())), "{length} of {end}, {grid:?}");
         }
-    });
-    let served: Vec<usize> = served.collect();
-    assert_eq!(served, (served[0]..=frame.image().len()).collect::<Vec<usize>>());
+    }
+    assert!(end <= frame.image().len());
 }
 
 #[test]
@@ -163,8 +159,8 @@ fn whole_block_reaches_its_nominal_end() {
 fn whole_block_is_empty_in_s() {
     let grid = small(InterleaveMode::S);
     assert_eq!(whole_block(&counting(64), &grid, 1, 1), Ok(&[][..]));
-    assert_eq!(whole_block(&[], &grid, 1, 1), Ok(&[][..]));
-    assert_eq!(whole_block(&[], &grid, 2, 1), Err(Refusal::BlockOutsideGrid));
+    assert_eq!(whole_block(&exact(&[]), &grid, 1, 1), Ok(&[][..]));
+    assert_eq!(whole_block(&exact(&[]), &grid, 2, 1), Err(Refusal::BlockOutsideGrid));
 }
 
 #[test]
@@ -176,5 +172,5 @@ fn whole_block_refuses() {
     for (row, column) in [(2, 0), (0, 2), (u32::MAX, u32::MAX)] {
         assert_eq!(whole_block(&counting(64), &grid, row, column).map_err(Refusal::number), Err(6));
     }
-    assert_eq!(whole_block(&[], &grid, 0, 0).map_err(Refusal::number), Err(7));
+    assert_eq!(whole_block(&exact(&[]), &grid, 0, 0).map_err(Refusal::number), Err(7));
 }

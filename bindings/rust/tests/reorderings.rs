@@ -66,11 +66,11 @@ fn listed_bands_of_pixels() {
         let band = 8 * bytes;
         for list in [&[2, 0, 2, 2][..], &[1], &[], &[0, 1, 2]] {
             let expected: Vec<u8> = list.iter().flat_map(|&b| ordered[b as usize * band..][..band].to_vec()).collect();
-            let reordered = Reordered { bands: list.len(), bytes: expected.len() };
+            let (lent, reordered) = (exact(list), Reordered { bands: list.len(), bytes: expected.len() });
             let mut out = exact(&vec![0xAA; expected.len()]);
-            assert_eq!(fused_bip_to_bsq(&pixels, 2, 4, 3, bytes, Bands::Listed(list), &mut out), Ok(reordered));
+            assert_eq!(fused_bip_to_bsq(&pixels, 2, 4, 3, bytes, Bands::Listed(&lent), &mut out), Ok(reordered));
             assert_eq!(*out, expected);
-            let vector = fused_bip_to_bsq_vec(&pixels, 2, 4, 3, bytes, Bands::Listed(list));
+            let vector = fused_bip_to_bsq_vec(&pixels, 2, 4, 3, bytes, Bands::Listed(&lent));
             assert_eq!(vector, Ok((reordered, expected)));
         }
         let all = fused_bip_to_bsq_vec(&pixels, 2, 4, 3, bytes, Bands::All);
@@ -80,13 +80,15 @@ fn listed_bands_of_pixels() {
 
 #[test]
 fn a_longer_output_keeps_its_rest() {
+    let data = exact(&[1, 2, 3, 4]);
     let mut out = exact(&[0xAA; 6]);
-    assert!(to_band_sequential(&[1, 2, 3, 4], InterleaveMode::P, 1, 2, 2, 1, &mut out).is_ok());
+    assert!(to_band_sequential(&data, InterleaveMode::P, 1, 2, 2, 1, &mut out).is_ok());
     assert_eq!(*out, [1, 3, 2, 4, 0xAA, 0xAA]);
-    assert!(from_band_sequential(&[1, 2, 3, 4], InterleaveMode::R, 1, 2, 2, 1, &mut out[..5]).is_ok());
-    assert_eq!(*out, [1, 2, 3, 4, 0xAA, 0xAA]);
-    assert!(fused_bip_to_bsq(&[1, 2, 3, 4], 1, 2, 2, 1, Bands::Listed(&[1]), &mut out).is_ok());
-    assert_eq!(*out, [2, 4, 3, 4, 0xAA, 0xAA]);
+    assert!(fused_bip_to_bsq(&data, 1, 2, 2, 1, Bands::Listed(&exact(&[1])), &mut out).is_ok());
+    assert_eq!(*out, [2, 4, 2, 4, 0xAA, 0xAA]);
+    let mut out = exact(&[0xAA; 5]);
+    assert!(from_band_sequential(&data, InterleaveMode::R, 1, 2, 2, 1, &mut out).is_ok());
+    assert_eq!(*out, [1, 2, 3, 4, 0xAA]);
 }
 
 /// The number of all three reorderings of this much data, with an output that must be kept.
@@ -106,15 +108,15 @@ fn refused(length: usize, counts: [u32; 3], bytes: usize, bands: Bands, room: us
 #[test]
 fn reorderings_refuse() {
     for bytes in [0, 9, usize::MAX] {
-        assert_eq!(refused(4, [u32::MAX; 3], bytes, Bands::Listed(&[9]), 0), [2; 3]);
+        assert_eq!(refused(4, [u32::MAX; 3], bytes, Bands::Listed(&exact(&[9])), 0), [2; 3]);
     }
-    assert_eq!(refused(4, [u32::MAX; 3], 8, Bands::Listed(&[9]), 0), [4; 3]);
-    assert_eq!(refused(4, [65_537, 65_535, 1], 1, Bands::Listed(&[9]), 0), [4; 3]);
-    assert_eq!(refused(4, [2_147_483_647, 2, 1], 1, Bands::Listed(&[9]), 0), [14; 3]);
+    assert_eq!(refused(4, [u32::MAX; 3], 8, Bands::Listed(&exact(&[9])), 0), [4; 3]);
+    assert_eq!(refused(4, [65_537, 65_535, 1], 1, Bands::Listed(&exact(&[9])), 0), [4; 3]);
+    assert_eq!(refused(4, [2_147_483_647, 2, 1], 1, Bands::Listed(&exact(&[9])), 0), [14; 3]);
     for length in [0, 3, 5] {
-        assert_eq!(refused(length, [1, 2, 2], 1, Bands::Listed(&[9]), 0), [14; 3]);
+        assert_eq!(refused(length, [1, 2, 2], 1, Bands::Listed(&exact(&[9])), 0), [14; 3]);
     }
-    assert_eq!(refused(4, [1, 2, 2], 1, Bands::Listed(&[2]), 0), [9, 9, 8]);
+    assert_eq!(refused(4, [1, 2, 2], 1, Bands::Listed(&exact(&[2])), 0), [9, 9, 8]);
     assert_eq!(refused(4, [1, 2, 2], 1, Bands::All, 3), [9; 3]);
 }
 
@@ -126,9 +128,9 @@ fn vector_forms_refuse_alike() {
         assert_eq!(to.map_err(Refusal::number), Err(number));
         let from = from_band_sequential_vec(&data, InterleaveMode::P, rows, 2, 2, bytes);
         assert_eq!(from.map_err(Refusal::number), Err(number));
-        let fused = fused_bip_to_bsq_vec(&data, rows, 2, 2, bytes, Bands::Listed(&[2]));
+        let fused = fused_bip_to_bsq_vec(&data, rows, 2, 2, bytes, Bands::Listed(&exact(&[2])));
         assert_eq!(fused.map_err(Refusal::number), Err(number));
     }
-    let fused = fused_bip_to_bsq_vec(&data, 1, 2, 2, 1, Bands::Listed(&[1, 2]));
+    let fused = fused_bip_to_bsq_vec(&data, 1, 2, 2, 1, Bands::Listed(&exact(&[1, 2])));
     assert_eq!(fused, Err(Refusal::NoSuchBand));
 }

@@ -29,18 +29,18 @@ fn figures_a_to_d_through_a_window() {
 #[test]
 fn figures_e_f_and_h_to_j_through_a_window() {
     let (grid, corner) = (small(InterleaveMode::P), Window { row: 2, column: 4, rows: 1, columns: 1 });
-    let read = |length, bands| read_window_vec(&counting(length), &grid, corner, bands).map_err(Refusal::number);
+    let read = |length, bands: Bands| read_window_vec(&counting(length), &grid, corner, bands).map_err(Refusal::number);
     assert_eq!(read(50, Bands::All), Ok((shape(2, 1, 1), vec![48, 49])));
     assert_eq!(read(49, Bands::All), Err(7));
-    assert_eq!(read(64, Bands::Listed(&[1, 1])), Ok((shape(2, 1, 1), vec![49, 49])));
-    assert_eq!(read(64, Bands::Listed(&[2])), Err(8));
-    assert_eq!(read(64, Bands::Listed(&[])), Ok((shape(0, 1, 1), vec![])));
+    assert_eq!(read(64, Bands::Listed(&exact(&[1, 1]))), Ok((shape(2, 1, 1), vec![49, 49])));
+    assert_eq!(read(64, Bands::Listed(&exact(&[2]))), Err(8));
+    assert_eq!(read(64, Bands::Listed(&exact(&[]))), Ok((shape(0, 1, 1), vec![])));
 }
 
 #[test]
 fn a_window_across_all_blocks() {
     let mut out = exact(&[0; 15]);
-    let answer = read_window(&counting(64), &small(InterleaveMode::B), WHOLE, Bands::Listed(&[1]), &mut out);
+    let answer = read_window(&counting(64), &small(InterleaveMode::B), WHOLE, Bands::Listed(&exact(&[1])), &mut out);
     assert_eq!(answer, Ok(shape(1, 3, 5)));
     assert_eq!(*out, [8, 9, 10, 11, 24, 12, 13, 14, 15, 28, 40, 41, 42, 43, 56]);
 }
@@ -76,18 +76,19 @@ fn read_window_refuses() {
         assert_eq!(read_window_vec(&counting(64), &grid, window, Bands::All).map_err(Refusal::number), Err(10));
     }
     assert_eq!(refused(&grid, 48, WHOLE, Bands::All), 7);
-    assert_eq!(refused(&grid, 64, WHOLE, Bands::Listed(&[1, 2])), 8);
+    assert_eq!(refused(&grid, 64, WHOLE, Bands::Listed(&exact(&[1, 2]))), 8);
     assert_eq!(refused(&grid, 64, WHOLE, Bands::All), 9);
 }
 
 #[test]
 fn read_window_asks_in_order() {
-    let (grid, empty, bands) = (small(InterleaveMode::B), Window { rows: 0, ..WHOLE }, Bands::Listed(&[9]));
+    let (grid, empty, list) = (small(InterleaveMode::B), Window { rows: 0, ..WHOLE }, exact(&[9]));
+    let bands = Bands::Listed(&list);
     assert_eq!(refused(&Grid { bands: 0, ..grid }, 0, empty, bands), 1);
     assert_eq!(refused(&grid, 0, empty, bands), 10);
     assert_eq!(refused(&grid, 0, WHOLE, bands), 7);
     assert_eq!(refused(&grid, 64, WHOLE, bands), 8);
-    assert_eq!(refused(&grid, 64, WHOLE, Bands::Listed(&[1])), 9);
+    assert_eq!(refused(&grid, 64, WHOLE, Bands::Listed(&exact(&[1]))), 9);
 }
 
 #[test]

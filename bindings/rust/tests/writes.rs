@@ -87,7 +87,7 @@ fn figure_m() {
 fn a_write_at_a_packed_width_clears_its_runs() {
     let grid = Grid::new(2, 3, 1, 4, InterleaveMode::B, 2, 2);
     let (mut image, mut marks) = (exact(&[0xFF; 4]), exact(&[0; 1]));
-    assert_eq!(encode_block(&mut image, &mut marks, &grid, 0, 1, shape(1, 2, 1), &[5, 9]), Ok(()));
+    assert_eq!(encode_block(&mut image, &mut marks, &grid, 0, 1, shape(1, 2, 1), &exact(&[5, 9])), Ok(()));
     assert_eq!(*image, [0xFF, 0xFF, 0x59, 0]);
 }
 
@@ -95,7 +95,7 @@ fn a_write_at_a_packed_width_clears_its_runs() {
 fn a_write_at_bytes_touches_only_its_samples() {
     let grid = Grid::new(2, 3, 1, 8, InterleaveMode::B, 2, 2);
     let (mut image, mut marks) = (exact(&[0xFF; 8]), exact(&[0; 1]));
-    assert_eq!(encode_block(&mut image, &mut marks, &grid, 0, 1, shape(1, 2, 1), &[5, 9]), Ok(()));
+    assert_eq!(encode_block(&mut image, &mut marks, &grid, 0, 1, shape(1, 2, 1), &exact(&[5, 9])), Ok(()));
     assert_eq!(*image, [0xFF, 0xFF, 0xFF, 0xFF, 5, 0xFF, 9, 0xFF]);
 }
 
@@ -103,7 +103,7 @@ fn a_write_at_bytes_touches_only_its_samples() {
 fn a_write_keeps_the_rest_of_longer_buffers() {
     let grid = small(InterleaveMode::R);
     let (mut image, mut marks) = (exact(&[0xFF; 67]), exact(&[4, 77]));
-    assert_eq!(encode_block(&mut image, &mut marks, &grid, 1, 1, shape(2, 1, 1), &[1, 2]), Ok(()));
+    assert_eq!(encode_block(&mut image, &mut marks, &grid, 1, 1, shape(2, 1, 1), &exact(&[1, 2])), Ok(()));
     assert_eq!((image[48], image[52], &image[64..], &marks[..]), (1, 2, &[0xFF; 3][..], &[12, 77][..]));
 }
 
@@ -184,7 +184,7 @@ fn progress_refuses() {
     for (grid, number) in refused_grids() {
         assert_eq!(progress(&exact(&[0]), &grid).map_err(Refusal::number), Err(number));
     }
-    assert_eq!(progress(&[], &small(InterleaveMode::B)).map_err(Refusal::number), Err(12));
+    assert_eq!(progress(&exact(&[]), &small(InterleaveMode::B)).map_err(Refusal::number), Err(12));
 }
 
 #[test]
@@ -209,7 +209,7 @@ fn finalize_refuses() {
         assert_eq!(finalize(&exact(&[0; 64]), &exact(&[0]), &grid).map_err(Refusal::number), Err(number));
     }
     let grid = small(InterleaveMode::B);
-    assert_eq!(finalize(&exact(&[0; 63]), &[], &grid).map_err(Refusal::number), Err(11));
-    assert_eq!(finalize(&exact(&[0; 64]), &[], &grid).map_err(Refusal::number), Err(12));
+    assert_eq!(finalize(&exact(&[0; 63]), &exact(&[]), &grid).map_err(Refusal::number), Err(11));
+    assert_eq!(finalize(&exact(&[0; 64]), &exact(&[]), &grid).map_err(Refusal::number), Err(12));
     assert_eq!(finalize(&exact(&[0; 64]), &exact(&[0]), &grid).map_err(Refusal::number), Err(15));
 }

@@ -27,6 +27,9 @@ putBits-low xs p (suc n) u v e =
     let f : u / 2 % 2 ^ n * 2 + u % 2 ≡ v / 2 % 2 ^ n * 2 + v % 2 = sym (digits u n) ∙ e ∙ digits v n in
     ap₂ (λ (ys : List ℕ) (b : ℕ). setBit ys (p + n) b) (putBits-low xs p n (u / 2) (v / 2) (omega arith)) (omega arith)
 
+pub putBits-mod : (xs : List ℕ) (p n v : ℕ) → putBits xs p n v ≡ putBits xs p n (v % 2 ^ n)
+putBits-mod xs p n v = putBits-low xs p n v (v % 2 ^ n) (sym (mod-eq-of-lt (mod-lt v (pow-pos n))))
+
 -- ---- bits that are there already
 
 withBit-kept : (x k : ℕ) → withBit x k (x / 2 ^ k % 2) ≡ x

@@ -4,7 +4,8 @@ ghost use Prim.Native.Nat.{_+_, _*_, _/_, _%_, _^_, _≤_, _<_, min};
 ghost use lib.ListN.{length};
 ghost use Rattle.bits.specs.Bits.{bitsAt, putBits, withField};
 
-fn least(a: usize, b: usize) -> usize
+// The lesser of two.
+pub fn least(a: usize, b: usize) -> usize
     ensures { λ r. ⌜ r ≡ min a b ⌝ }
 {
     if a < b { a } else { b }

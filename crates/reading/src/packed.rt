@@ -1,6 +1,6 @@
 // Parts of blocks whose packed runs hold several bands.
 ghost use mathlib.Core.Path.{_≡_};
-ghost use Prim.Native.Nat.{_+_, _*_, _≤_, _<_, min};
+ghost use Prim.Native.Nat.{_+_, _*_, _≤_, _<_};
 ghost use lib.ListN.{length};
 ghost use Rattle.bits.specs.Over.{over};
 ghost use Rattle.grid.specs.Check.{Accepted};
@@ -12,16 +12,11 @@ ghost use Rattle.samples.specs.Patched.{patched};
 ghost use Rattle.frame.specs.Reads.{sampleAt};
 ghost use Rattle.reading.specs.Parts.{Readable, partSample, inPart};
 use crate::part::Part;
+use bits::least;
 use grid::Grid;
 use grid::bands::band_at;
 use grid::bands::band_count;
 use samples::read::read_samples;
-
-fn least(a: usize, b: usize) -> usize
-    ensures { λ r. ⌜ r ≡ min a b ⌝ }
-{
-    if a < b { a } else { b }
-}
 
 // `count` samples of a row of a block, from sample (b, r, c) on, to index `to` of `out` on. They are cut where a run ends.
 pub fn read_line(

@@ -4,3 +4,5 @@ pub mod Turns
 pub mod Refusals
 pub mod Rows
 pub mod Bounds
+pub mod Stored
+pub mod EvenRuns

@@ -1,34 +1,21 @@
--- Samples of a row put at their places, several at once where they stand evenly.
+-- Samples of a row put at their places, as many at once as stand evenly.
 -- Assumes nothing.
-use Prim.Native.Nat.{ℕ, zero, suc, _+_, _-_, _*_, _/_, _%_, _^_, min, _≤_, _<_}
+use Prim.Native.Nat.{ℕ, zero, suc, _+_, _-_, _*_, _%_, _^_, min, _≤_, _<_}
 use mathlib.Core.Path.{_≡_, refl, sym, ap, ap₂, _∙_}
-use mathlib.Core.Bool.{true}
 use mathlib.Core.List.{List}
 use native.Mathlib.Omega.{arith}
-use native.Mathlib.Nat.{zero-add, add-zero, add-suc}
-use native.Mathlib.Numerals.{add-one}
-use lib.Pow.{mod-pow-add}
-use Rattle.bits.specs.Bits.{setBit, putBits, beAt}
+use native.Mathlib.Nat.{add-zero, add-suc}
+use Rattle.bits.specs.Bits.{putBits, beAt}
+use Rattle.bits.proofs.Joined.{putBits-mod}
 use Rattle.samples.specs.Samples.{sideBySide, putSpaced}
 use Rattle.grid.specs.declared.Grid.{Grid}
-use Rattle.grid.specs.declared.Strides.{Strides}
 use Rattle.grid.specs.Sizes.{sampleBytes, actualRows, actualColumns}
-use Rattle.grid.specs.Layout.{place, Block, Sample}
-use Rattle.grid.specs.Strides.{standsEvenly, columnStride, stridesOf, restOfRun}
-use Rattle.grid.proofs.Accepted.{Facts, columns-pos}
+use Rattle.grid.specs.Layout.{place, Sample}
+use Rattle.grid.specs.Strides.{columnStride, restOfRun}
+use Rattle.grid.proofs.Accepted.{Facts}
 use Rattle.grid.proofs.SamplePlaces.{steps}
-use Rattle.grid.proofs.Even.{place-even, place-along, rest-in, rest-pos}
+use Rattle.grid.proofs.Even.{place-along, rest-in, rest-pos}
 use Rattle.frame.specs.Writes.{iter, dataAt, putRow}
-
--- of a number that is put only its low bits count
-pub putBits-low : (xs : List ℕ) (p n v : ℕ) → putBits xs p n v ≡ putBits xs p n (v % 2 ^ n)
-unfolding putBits
-putBits-low xs p zero v = refl
-putBits-low xs p (suc n) v =
-    let e : v % 2 ^ suc n ≡ v / 2 % 2 ^ n * 2 + v % 2 = ap (λ (a : ℕ). v % 2 ^ a) (sym (add-one n)) ∙ mod-pow-add v n 1 in
-    let h : v / 2 % 2 ^ n ≡ v % 2 ^ suc n / 2 = omega arith in
-    let l : v % 2 ≡ v % 2 ^ suc n % 2 = omega arith in
-    ap₂ (λ (ys : List ℕ) (a : ℕ). setBit ys (p + n) a) (putBits-low xs p n (v / 2) ∙ ap (putBits xs p n) h) l
 
 -- ---- a piece of a row
 
@@ -70,7 +57,7 @@ row-more g row column dat b r d zero start at step image e h = ap (λ (n : ℕ).
 row-more g row column dat b r d (suc n) start at step image e h =
     ap₂ (λ (ys : List ℕ) (p : ℕ). putBits ys p (g .nbpp) (sideBySide dat start (sampleBytes g) n))
     (row-more g row column dat b r d n start at step image e (λ k l. h k (omega arith))) (sym (h n (omega arith)))
-    ∙ putBits-low (putRow g row column dat b r (d + n) image) (place g row column b r (d + n)) (g .nbpp) _
+    ∙ putBits-mod (putRow g row column dat b r (d + n) image) (place g row column b r (d + n)) (g .nbpp) _
     ∙ ap (putBits (putRow g row column dat b r (d + n) image) (place g row column b r (d + n)) (g .nbpp))
     (sample-at g row column dat b r d n start e)
     ∙ ap (λ (n : ℕ). putRow g row column dat b r n image) (sym (add-suc d n))
@@ -86,34 +73,7 @@ piece-turn g row column dat b r {d = d} {n = n} {start = start} {at = at} {step 
     rw (eb, k .size-is) at ea
     ∙ row-more g row column dat b r d n start at step image (rw (k .rows-is, k .columns-is, k .size-is) at e) (p .spaced)
 
--- and a whole row in one piece
-pub row-turn : (g : Grid) (row column : ℕ) (dat : List ℕ) (b r : ℕ) {rows columns size start at step : ℕ} (image : List ℕ) {after : List ℕ}
-    → Sides g row column rows columns size → Piece g row column b r 0 columns at step
-    → start ≡ (b * rows + r) * columns * size
-    → after ≡ putSpaced (sideBySide dat start size) (g .nbpp) at step columns image
-    → after ≡ putRow g row column dat b r (actualColumns g column) image
-unfolding iter
-row-turn g row column dat b r {columns = columns} image k p e ea =
-    piece-turn g row column dat b r image k p (omega arith) refl ea
-    ∙ ap (λ (n : ℕ). putRow g row column dat b r n image) (zero-add columns ∙ k .columns-is)
-
 -- ---- where samples of a row stand evenly
-
--- a whole row of a block whose samples stand evenly
-pub even-piece : (g : Grid) → Facts g → (row column b r : ℕ) {columns first : ℕ} {by : Strides} → standsEvenly g ≡ true
-    → Block g row column → b < g .bands → r < actualRows g row
-    → columns ≡ actualColumns g column → first ≡ place g row column 0 0 0 → by ≡ stridesOf g column
-    → Piece g row column b r 0 columns (first + b * by .band + r * by .row) (by .column)
-even-piece g f row column b r e t hb hr ec ef es =
-    let p : 0 < actualColumns g column = columns-pos g f column (t .in-column) in
-    rw (ec, ef, es)
-    (record {
-      sample = record { block = t; in-b = hb; in-r = hr; in-c = p };
-      some = p;
-      ends = omega arith;
-      stride = refl;
-      spaced = λ k l. ap (place g row column b r) (zero-add k) ∙ place-even g row column b r k e hr l;
-    })
 
 -- what is left of a row in the run at hand, from column d on
 pub next-piece : (g : Grid) → Facts g → (row column b r d : ℕ) {columns rest n at step : ℕ} → Sample g row column b r d

@@ -1,23 +1,19 @@
 // The samples of a block, put at their places.
 ghost use mathlib.Core.Path.{_≡_};
 ghost use mathlib.Core.Bool.{true};
-ghost use Prim.Native.Nat.{_≤_, _<_, min};
+ghost use mathlib.Core.Logic.{_⊎_};
+ghost use Prim.Native.Nat.{_*_, _≤_, _<_};
 ghost use lib.ListN.{length};
 ghost use Rattle.grid.specs.Check.{Accepted};
 ghost use Rattle.grid.specs.Sizes.{imageBytes, actualRows, actualColumns};
 ghost use Rattle.grid.specs.Layout.{Block};
-ghost use Rattle.grid.specs.Strides.{standsEvenly};
+ghost use Rattle.grid.specs.Strides.{standsEvenly, rowStride, columnStride};
 ghost use Rattle.frame.specs.Writes.{clearRuns, putBlock, putRow, storeBlock};
 ghost use Rattle.writing.specs.Writable.{Writable};
 use crate::clear::clear_bytes;
+use bits::least;
 use grid::Grid;
 use samples::write::write_samples;
-
-fn least(a: usize, b: usize) -> usize
-    ensures { λ r. ⌜ r ≡ min a b ⌝ }
-{
-    if a < b { a } else { b }
-}
 
 // Clears the bytes of each run of a block.
 fn clear_runs(image: &mut [u8], grid: Grid, row: usize, column: usize)
@@ -34,7 +30,38 @@ fn clear_runs(image: &mut [u8], grid: Grid, row: usize, column: usize)
     }
 }
 
-// Puts the samples of a block whose samples stand evenly, row by row and in a row band by band.
+// How many samples of a band stand evenly one after the other: those of a row, or all where each row starts where the row before it ends.
+fn line_samples(grid: Grid, row: usize, column: usize) -> usize
+    requires { ⌜ Accepted grid ⌝ }
+    requires { ⌜ Block grid row column ⌝ }
+    ensures { λ n. ⌜ (n ≡ actualColumns grid column) ⊎ ((n ≡ actualRows grid row * actualColumns grid column) × (rowStride (grid .imode) grid column ≡ actualColumns grid column * columnStride (grid .imode) grid)) ⌝ }
+{
+    let rows = grid.actual_rows(row);
+    let columns = grid.actual_columns(column);
+    let by = grid.strides(column);
+    if by.row == columns * by.column {
+        rows * columns
+    } else {
+        columns
+    }
+}
+
+// How many samples of a band are put at once: a whole line, or where samples of other bands stand between them 16, or as many sixteens as 5,120 bytes of the
+// image hold, so that these bytes are still in the cache when the next band is put.
+fn piece_samples(line: usize, step: usize, width: usize) -> usize
+    requires { ⌜ (0 < line) × (0 < step) ⌝ }
+    ensures { λ n. ⌜ 0 < n ⌝ }
+{
+    if step == width {
+        line
+    } else if step > 2_560 {
+        16
+    } else {
+        2_560 / step * 16
+    }
+}
+
+// Puts the samples of a block whose samples stand evenly, piece by piece and in a piece band by band.
 fn put_even(image: &mut [u8], grid: Grid, row: usize, column: usize, data: &[u8])
     requires { ⌜ standsEvenly grid ≡ true ⌝ }
     requires { ⌜ Writable grid row column (now «data») (now image) ⌝ }
@@ -42,16 +69,29 @@ fn put_even(image: &mut [u8], grid: Grid, row: usize, column: usize, data: &[u8]
 {
     let width = grid.nbpp as usize;
     let size = grid.sample_bytes();
-    let rows = grid.actual_rows(row);
-    let columns = grid.actual_columns(column);
+    let plane = grid.actual_rows(row) * grid.actual_columns(column);
     let by = grid.strides(column);
     let first = grid.sample_place(row, column, 0, 0, 0);
-    for r in 0..rows {
+    let line = line_samples(grid, row, column);
+    let most = piece_samples(line, by.column, width);
+    let mut next = 0;
+    while next < plane {
+        let n = least(most, line - next % line);
+        let at = first + next / line * by.row + next % line * by.column;
         for b in 0..grid.bands as usize {
-            let from = (b * rows + r) * columns * size;
-            let at = first + b * by.band + r * by.row;
-            write_samples(data, from, size, image, at, by.column, width, columns);
+            let from = (b * plane + next) * size;
+            write_samples(
+                data,
+                from,
+                size,
+                image,
+                at + b * by.band,
+                by.column,
+                width,
+                n,
+            );
         }
+        next += n;
     }
 }
 

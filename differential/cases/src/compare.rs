@@ -63,21 +63,34 @@ impl Side {
     }
 }
 
-/// A case on which the sides differ, and each side's name and answer.
+/// A case on which the sides differ, and each side's name and its answer, if it has one.
 #[derive(Debug)]
 pub struct Difference {
     pub case: Case,
-    pub answers: [(&'static str, Answer); 2],
+    pub answers: [(&'static str, Option<Answer>); 2],
+}
+
+impl Difference {
+    fn between(
+        case: &Case,
+        answers: [(&'static str, impl Into<Option<Answer>>); 2],
+    ) -> Box<Difference> {
+        let answers = answers.map(|(name, answer)| (name, answer.into()));
+        Box::new(Difference { case: case.clone(), answers })
+    }
 }
 
 impl fmt::Display for Difference {
     fn fmt(&self, f: &mut fmt::Formatter<'_>) -> fmt::Result {
         write!(f, "a difference: {:?}", self.case)?;
-        self.answers.iter().try_for_each(|(name, answer)| write!(f, "\n{name}: {answer:?}"))
+        self.answers.iter().try_for_each(|(name, answer)| match answer {
+            Some(answer) => write!(f, "\n{name}: {answer:?}"),
+            None => write!(f, "\n{name}: no answer"),
+        })
     }
 }
 
-/// Two sides. A case to which one of them has no answer is left out.
+/// Two sides. A case to which one of them has no answer is left out, unless its answer is known.
 pub struct Comparison {
     sides: [Side; 2],
     pub tally: Tally,
@@ -95,8 +108,7 @@ impl Comparison {
 
     fn difference(&self, case: &Case) -> Option<Box<Difference>> {
         let answers = self.answers(case)?;
-        let differ = answers[0].1 != answers[1].1;
-        differ.then(|| Box::new(Difference { case: case.clone(), answers }))
+        (answers[0].1 != answers[1].1).then(|| Difference::between(case, answers))
     }
 
     /// One case. A difference is given as it is.
@@ -105,22 +117,23 @@ impl Comparison {
             return Ok(());
         };
         if answers[0].1 != answers[1].1 {
-            return Err(Box::new(Difference { case: case.clone(), answers }));
+            return Err(Difference::between(case, answers));
         }
         self.tally.case(case, &answers[0].1);
         Ok(())
     }
 
-    /// A case whose answer is known.
+    /// A case whose answer is known: both sides must give it.
     pub fn known(&mut self, case: &Case, answer: &Answer) -> Result<(), Box<Difference>> {
-        self.case(case)?;
-        match self.answers(case) {
-            Some([first, _]) if first.1 != *answer => {
-                let answers = [first, ("known", answer.clone())];
-                Err(Box::new(Difference { case: case.clone(), answers }))
+        for side in &self.sides {
+            let given = (side.answer)(case);
+            if given.as_ref() != Some(answer) {
+                let answers = [(side.name, given), ("known", Some(answer.clone()))];
+                return Err(Difference::between(case, answers));
             }
-            _ => Ok(()),
         }
+        self.tally.case(case, answer);
+        Ok(())
     }
 
     /// One case from a source. A difference is given on the smallest case found.

@@ -1,6 +1,6 @@
 //! The model against document 01's figures, and at the limits that the figures leave out.
 
-use cases::model::{answer, frame, mask, questions, read, reorder};
+use cases::model::{answer, frame, layout, mask, questions, read, reorder};
 use cases::{figures, outside, Area, Case, Grid, Header, Lent, Mode, Pack, WIDTHS};
 
 #[test]
@@ -31,12 +31,29 @@ fn grid_limits() {
     assert_eq!(number([1, 1], 100_000, 8, [1, 1]), 1);
     assert_eq!(number([9_999, 1], 1, 8, [1, 1]), 0);
     assert_eq!(number([10_000, 1], 1, 8, [1, 1]), 3);
-    // 65,537 x 65,535 = 4,294,967,295.
-    assert_eq!(number([65_537, 13_107], 5, 8, [65_537_u32.div_ceil(9_999), 1]), 3);
-    assert_eq!(number([8_192, 8_192], 63, 8, [8_192, 8_192]), 0);
-    assert_eq!(number([8_192, 8_192], 64, 8, [8_192, 8_192]), 4);
     let grid = Grid { nbpr: 2, ..Grid::new([1, 1], 1, 8, Mode::B, [1, 1]) };
     assert_eq!(questions::grid(&grid), 3);
+}
+
+/// No image has 4,294,967,294 bytes: that is 2 times a prime that is more than every factor of a size.
+#[test]
+fn image_limit() {
+    let held = |grid: Grid| (layout::image_bytes(&grid), questions::grid(&grid));
+    for mode in Mode::ALL {
+        // 9,241 bands, or blocks, of 464,773 bytes.
+        let largest = Grid::new([1_143, 3_253], 9_241, 1, mode, [1_143, 3_253]);
+        assert_eq!(held(largest), (4_294_967_293, 0));
+        let blocks = Grid { bands: 1, nrows: 9_241 * 1_143, nbpc: 9_241, ..largest };
+        assert_eq!(held(blocks), (4_294_967_293, 0));
+        // 15 x 4,369 blocks of 65,537 bands of one byte, and 65,535 bands of 65,537 bytes.
+        let smallest = Grid::new([15, 4_369], 65_537, 8, mode, [1, 1]);
+        assert_eq!(held(smallest), (4_294_967_295, 4));
+        let bands = Grid::new([191, 2_745], 65_535, 1, mode, [191, 2_745]);
+        assert_eq!(held(bands), (4_294_967_295, 4));
+        let large = Grid::new([8_192, 8_192], 63, 8, mode, [8_192, 8_192]);
+        assert_eq!(held(large), (4_227_858_432, 0));
+        assert_eq!(held(Grid { bands: 64, ..large }), (4_294_967_296, 4));
+    }
 }
 
 #[test]
@@ -92,6 +109,14 @@ fn reordering_questions() {
     assert_eq!(reorder::to_sequential(&Pack { size: 9, ..pack }, &[0; 9], &mut [0; 9]), 2);
     let large = Pack { rows: 1 << 31, columns: 1 << 31, bands: 4, ..pack };
     assert_eq!(reorder::to_sequential(&large, &[], &mut []), 4);
+    // Products of 4,294,967,294 and 4,294,967,295.
+    let (last, first) = ([2_147_483_647, 2], [65_537, 65_535]);
+    for ([rows, columns], number) in [(last, 14), (first, 4)] {
+        let limit = Pack { rows, columns, ..pack };
+        assert_eq!(reorder::to_sequential(&limit, &[], &mut []), number);
+        assert_eq!(reorder::from_sequential(&limit, &[], &mut []), number);
+        assert_eq!(reorder::select(&limit, &[], None, &mut []), number);
+    }
     assert_eq!(reorder::to_sequential(&pack, &[], &mut []), 14);
     assert_eq!(reorder::from_sequential(&pack, &[1], &mut []), 9);
     let none = Pack { rows: u32::MAX, columns: u32::MAX, bands: 0, ..pack };

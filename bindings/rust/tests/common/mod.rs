@@ -1,13 +1,15 @@
 //! What the tests share: buffers of exact size, document 01's picture, refused grids, and a plain picture.
 #![allow(dead_code)]
 
+pub mod expected;
+
 use gezdunar::{Grid, InterleaveMode, Shape};
 
 /// The widths that question 2 takes.
 pub const WIDTHS: [u32; 29] =
     [1, 2, 3, 4, 5, 6, 7, 8, 9, 10, 11, 12, 13, 14, 15, 16, 24, 25, 26, 27, 28, 29, 30, 31, 32, 40, 48, 56, 64];
 
-/// A copy in an allocation of exact size, so that an access past its end is seen.
+/// A copy in an allocation of exact size, to be lent: an access beside it is seen. An empty one has no bytes at all.
 pub fn exact<T: Clone>(values: &[T]) -> Box<[T]> {
     values.to_vec().into_boxed_slice()
 }
@@ -45,7 +47,7 @@ pub fn sample(grid: &Grid, band: usize, row: usize, column: usize) -> u64 {
 }
 
 /// The big-endian bytes of a rectangle of the plain picture, of these bands.
-pub fn samples(grid: &Grid, bands: &[u32], row: usize, column: usize, rows: usize, columns: usize) -> Vec<u8> {
+pub fn samples(grid: &Grid, bands: &[u32], row: usize, column: usize, rows: usize, columns: usize) -> Box<[u8]> {
     let bytes = grid.nbpp.div_ceil(8) as usize;
     let mut out = Vec::new();
     for &band in bands {
@@ -54,11 +56,11 @@ pub fn samples(grid: &Grid, bands: &[u32], row: usize, column: usize, rows: usiz
             out.extend_from_slice(&number.to_be_bytes()[8 - bytes..]);
         }
     }
-    out
+    out.into_boxed_slice()
 }
 
 /// The bytes of a block of the plain picture, of these bands.
-pub fn block_samples(grid: &Grid, bands: &[u32], block_row: u32, block_col: u32) -> Vec<u8> {
+pub fn block_samples(grid: &Grid, bands: &[u32], block_row: u32, block_col: u32) -> Box<[u8]> {
     let (row, column) = (block_row * grid.nppbv, block_col * grid.nppbh);
     let (rows, columns) = (grid.actual_rows(block_row), grid.actual_columns(block_col));
     samples(grid, bands, row as usize, column as usize, rows, columns)

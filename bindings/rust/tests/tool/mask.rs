@@ -1,12 +1,13 @@
 //! `mask`.
 
+use crate::common::exact;
 use crate::place::{options, Place};
 use gezdunar::{mask_write_vec, Grid, ImageDataMask, InterleaveMode, EMPTY_BLOCK_OFFSET};
 
 /// A table with block records, of 1 by 1 blocks.
 fn table(grid: &Grid, offsets: &[u32]) -> Vec<u8> {
     let mask = ImageDataMask { block_mask_record_length: 4, ..ImageDataMask::default() };
-    mask_write_vec(grid, &mask, offsets, &[]).expect("the table is accepted")
+    mask_write_vec(grid, &mask, &exact(offsets), &exact(&[])).expect("the table is accepted")
 }
 
 fn grid(rows: u32, columns: u32, bands: u32, imode: InterleaveMode) -> Grid {

@@ -14,7 +14,7 @@ fn odd(imode: InterleaveMode) -> Grid {
 /// All samples of the plain picture.
 fn raw(grid: &Grid) -> Vec<u8> {
     let bands: Vec<u32> = (0..grid.bands).collect();
-    samples(grid, &bands, 0, 0, grid.nrows as usize, grid.ncols as usize)
+    samples(grid, &bands, 0, 0, grid.nrows as usize, grid.ncols as usize).into_vec()
 }
 
 /// The image of the plain picture, written block by block, with some blocks skipped.
@@ -42,7 +42,7 @@ fn what_is_packed_comes_back_in_every_mode() {
         assert_eq!(place.get("back"), raw(&grid));
         let part = "window --image image --output part --row 2 --column 3 --window-rows 5 --window-columns 8";
         place.run(&format!("{part} {} --list 2,0,2", options(&grid))).done();
-        assert_eq!(place.get("part"), samples(&grid, &[2, 0, 2], 2, 3, 5, 8));
+        assert_eq!(place.get("part"), *samples(&grid, &[2, 0, 2], 2, 3, 5, 8));
         assert_eq!(place.names(), ["back", "image", "part", "raw"]);
     }
 }

@@ -141,6 +141,6 @@ fn the_lower_right_block_at_12_bits() {
         let place = Place::with("image", frame.image());
         let block = format!("block --image image --row 2 --column 2 {} --list 2,0 --output raw", options(&grid));
         assert_eq!(place.run(&block).done(), "wrote raw: 2 bands, 1 row, 3 columns, 2 bytes a sample: 12 bytes\n");
-        assert_eq!(place.get("raw"), samples(&grid, &[2, 0], 6, 8, 1, 3));
+        assert_eq!(place.get("raw"), *samples(&grid, &[2, 0], 6, 8, 1, 3));
     }
 }

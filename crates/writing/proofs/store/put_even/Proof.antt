@@ -1,77 +1,128 @@
--- `writing::store::put_even` meets its contract: the first r rows are put, and in the inner loop the first b bands of row r.
+-- `writing::store::put_even` meets its contract: the samples before sample `next` of every band are put, and in the inner loop the first b bands of the piece from there on.
 -- Assumes nothing.
-use mathlib.Core.Path.{_≡_, refl}
-use Prim.Native.Nat.{_+_, _-_, _*_, _≤_, _<_}
+use mathlib.Core.Path.{_≡_, refl, ap₂}
+use mathlib.Core.List.{List}
+use Prim.Native.Nat.{ℕ, _+_, _-_, _*_, _/_, _%_, _^_, _≤_, _<_}
 use native.Mathlib.Omega.{arith}
+use native.Mathlib.Nat.{mod-lt, le-of-lt}
 use borrow.Author.Needs.{needs}
 use denote.Ref.{now}
 use lib.ListN.{length}
-use Rattle.grid.specs.Sizes.{actualRows}
 use Rattle.grid.proofs.Accepted.{facts, rows-pos, columns-pos}
-use Rattle.frame.specs.Writes.{iter, putBlock}
-use Rattle.writing.proofs.Turns.{iter-none, iter-turn, bandRow, blockRow}
-use Rattle.writing.proofs.Rows.{Piece, Sides, row-turn, even-piece}
-use Rattle.writing.proofs.Bounds.{stays-writable, StartFits, start-fits, CanWrite, can-write}
+use Rattle.writing.proofs.Bounds.{stays-writable, CanWrite}
+use Rattle.writing.proofs.Stored.{Stored, Run, wide}
+use Rattle.writing.proofs.EvenRuns.{plane-fits, can-write-run, lines, Before, Within, EvenBlock, PieceFits, piece-fits, piece-ends, piece-run, pieces-none, pieces-enter, pieces-turn, pieces-leave, pieces-done}
 use Rattle.writing.proofs.store.put_even.Statement.{statement}
 use Rattle.writing.proofs.store.put_even.Tie as tie
 
 abbrev Inv-loop2 : tie.InvT-loop2
-Inv-loop2 image₀ grid row column «data» width size rows columns by first r b₀ b-end image b = (b ≤ grid .bands) × (length image ≡ length image₀) × (image ≡ iter b (bandRow grid row column «data» r) image₀)
+Inv-loop2 image₀ grid row column «data» width size plane by first line most next n at b₀ b-end image b =
+    (b ≤ grid .bands) × (length image ≡ length image₀)
+    × ((im : List ℕ) → Stored grid row column «data» (Before plane next) im image₀ → Stored grid row column «data» (Within plane next n b) im image)
 
 abbrev μ-loop2 : tie.MeasureT-loop2
-μ-loop2 image₀ grid row column «data» width size rows columns by first r b₀ b-end image b = grid .bands - b
+μ-loop2 image₀ grid row column «data» width size plane by first line most next n at b₀ b-end image b = grid .bands - b
 
 abbrev Inv-loop : tie.InvT-loop
-Inv-loop image₀ grid row column «data» width size rows columns by first r₀ image r = (r ≤ rows) × (length image ≡ length image₀) × (image ≡ iter r (blockRow grid row column «data») image₀)
+Inv-loop image₀ grid row column «data» width size plane by first line most next₀ image next = (next ≤ plane) × Stored grid row column «data» (Before plane next) image₀ image
 
 abbrev μ-loop : tie.MeasureT-loop
-μ-loop image₀ grid row column «data» width size rows columns by first r₀ image r = rows - r
+μ-loop image₀ grid row column «data» width size plane by first line most next₀ image next = plane - next
 
 -- what is known of the block
-sides : (c : tie.After-sample-place Inv-loop2 μ-loop2 Inv-loop μ-loop)
-    → let a = c .before .before .before .before .before .before .before .before .args in
-    Sides (a .grid) (a .row) (a .column) (c .before .before .before .actual-rows .result) (c .before .before .actual-columns .result) (c .before .before .before .before .sample-bytes .result)
-sides c =
-    record { rows-is = c .before .before .before .actual-rows .ensures; columns-is = c .before .before .actual-columns .ensures; size-is = c .before .before .before .before .sample-bytes .ensures }
+even : (c : tie.After-piece-samples Inv-loop2 μ-loop2 Inv-loop μ-loop)
+    → let a = c .before .before .before .before .before .before .before .before .before .before .args in
+    EvenBlock (a .grid) (a .row) (a .column) (c .before .before .before .before .before .actual-rows .result * c .before .before .before .before .actual-columns .result) (c .before .before .before .before .before .before .sample-bytes .result)
+    (c .before .before .sample-place .result) (c .before .before .before .strides .result) (c .before .line-samples .result) (c .piece-samples .result)
+even c =
+    let s = c .before .before .before .before .before .before .before .before .before .before in
+    record {
+      plane-is = ap₂ _*_ (c .before .before .before .before .before .actual-rows .ensures) (c .before .before .before .before .actual-columns .ensures);
+      size-is = c .before .before .before .before .before .before .sample-bytes .ensures;
+      first-is = c .before .before .sample-place .ensures;
+      strides-are = c .before .before .before .strides .ensures;
+      in-lines = lines (s .args .grid) (facts _ (s .pre .1 .accepted)) (s .args .row) (s .args .column) (s .pre .1 .block) (s .pre .0) (c .before .line-samples .ensures);
+      at-once = c .piece-samples .ensures;
+    }
 
--- the row and the band at hand
-in-row : (c : tie.In-loop2 Inv-loop2 μ-loop2 Inv-loop μ-loop) → c .before .before .before .before .loop .r < actualRows (c .before .before .before .before .before .before .before .before .before .before .before .before .before .args .grid) (c .before .before .before .before .before .before .before .before .before .before .before .before .before .args .row)
-in-row c = rw (c .before .before .before .before .before .before .before .before .actual-rows .ensures) at (c .before .before .before .loop-test .taken)
+plane-in : (c : tie.After-piece-samples Inv-loop2 μ-loop2 Inv-loop μ-loop) → c .before .before .before .before .before .actual-rows .result * c .before .before .before .before .actual-columns .result < 2 ^ 64
+plane-in c = let s = c .before .before .before .before .before .before .before .before .before .before in rw (even c .plane-is) (plane-fits (s .args .grid) (facts _ (s .pre .1 .accepted)) (s .args .row) (s .args .column))
 
+-- the piece at hand, of band b
+piece : (c : tie.After-least Inv-loop2 μ-loop2 Inv-loop μ-loop) (b : ℕ)
+    → let k = c .before .before .before in
+    let a = k .before .before .before .before .before .before .before .before .before .before .args in
+    let d = c .before .before .loop .next in
+    let line = k .before .line-samples .result in
+    let by = k .before .before .before .strides .result in
+    b < a .grid .bands
+    → Run (a .grid) (a .row) (a .column) (b * (k .before .before .before .before .before .actual-rows .result * k .before .before .before .before .actual-columns .result) + d) (c .least .result) (k .before .before .sample-place .result + d / line * by .row + d % line * by .column + b * by .band) (by .column)
+piece c b hb =
+    let k = c .before .before .before in
+    let s = k .before .before .before .before .before .before .before .before .before .before in
+    piece-run (s .args .grid) (facts _ (s .pre .1 .accepted)) (s .args .row) (s .args .column) (s .pre .1 .block) (even k) b (c .before .before .loop .next) (c .least .result)
+    hb (c .before .loop-test .taken) (c .least .ensures)
+
+-- it has a sample at least, and ends with the band's samples at the latest
+ends : (c : tie.After-least Inv-loop2 μ-loop2 Inv-loop μ-loop)
+    → let k = c .before .before .before in
+    (0 < c .least .result) × (c .before .before .loop .next + c .least .result ≤ k .before .before .before .before .before .actual-rows .result * k .before .before .before .before .actual-columns .result)
+ends c =
+    let s = c .before .before .before .before .before .before .before .before .before .before .before .before .before in
+    piece-ends (s .args .grid) (facts _ (s .pre .1 .accepted)) (s .args .row) (s .args .column) (s .pre .1 .block) (even (c .before .before .before)) (c .before .before .loop .next) (c .least .result) (c .before .loop-test .taken) (c .least .ensures)
+
+-- it can be written into an image of the same length
+can : (c : tie.After-least Inv-loop2 μ-loop2 Inv-loop μ-loop) (b : ℕ) (image : List ℕ)
+    → let k = c .before .before .before in
+    let a = k .before .before .before .before .before .before .before .before .before .before .args in
+    let d = c .before .before .loop .next in
+    let line = k .before .line-samples .result in
+    let by = k .before .before .before .strides .result in
+    let size = k .before .before .before .before .before .before .sample-bytes .result in
+    b < a .grid .bands → length image ≡ length (now (a .image))
+    → CanWrite (now (a .«data»)) image ((b * (k .before .before .before .before .before .actual-rows .result * k .before .before .before .before .actual-columns .result) + d) * size) size
+    (k .before .before .sample-place .result + d / line * by .row + d % line * by .column + b * by .band) (by .column) (a .grid .nbpp) (c .least .result)
+can c b image hb e =
+    let k = c .before .before .before in
+    let s = k .before .before .before .before .before .before .before .before .before .before in
+    can-write-run (s .args .grid) (s .args .row) (s .args .column) (now (s .args .«data»)) image (stays-writable (s .pre .1) e) (even k .size-is) (piece c b hb) refl
+
+-- its first bit
+first-in : (c : tie.After-least Inv-loop2 μ-loop2 Inv-loop μ-loop)
+    → let k = c .before .before .before in
+    let a = k .before .before .before .before .before .before .before .before .before .before .args in
+    let d = c .before .before .loop .next in
+    let line = k .before .line-samples .result in
+    let by = k .before .before .before .strides .result in
+    k .before .before .sample-place .result + d / line * by .row + d % line * by .column < 2 ^ 64
+first-in c =
+    let s = c .before .before .before .before .before .before .before .before .before .before .before .before .before in
+    omega (arith, can c 0 (now (s .args .image)) (facts _ (s .pre .1 .accepted) .sides .bands-pos) refl .1 .1 .0)
+
+-- its place in the data
 start-in : (c : tie.In-loop2 Inv-loop2 μ-loop2 Inv-loop μ-loop)
-    → let k = c .before .before .before .before .before in
-    StartFits (k .before .before .before .actual-rows .result) (k .before .before .actual-columns .result) (k .before .before .before .before .sample-bytes .result) (c .before .loop2 .b) (c .before .before .before .before .loop .r)
+    → let k = c .before .before .before .before .before .before .before .before in
+    PieceFits (k .before .before .before .before .before .actual-rows .result * k .before .before .before .before .actual-columns .result) (k .before .before .before .before .before .before .sample-bytes .result) (c .before .loop2 .b) (c .before .before .before .before .before .before .before .loop .next)
 start-in c =
-    let s = c .before .before .before .before .before .before .before .before .before .before .before .before .before in
-    start-fits (s .args .grid) (facts _ (s .pre .1 .accepted)) (s .args .row) (s .args .column) _ _ (sides (c .before .before .before .before .before)) (c .loop2-test .taken) (in-row c)
+    let k = c .before .before .before .before .before .before .before .before in
+    let s = k .before .before .before .before .before .before .before .before .before .before in
+    piece-fits (s .args .grid) (facts _ (s .pre .1 .accepted)) (s .args .row) (s .args .column) (s .pre .1 .block) (even k) _ _ (c .loop2-test .taken) (c .before .before .before .before .before .before .loop-test .taken)
 
--- what the turn at hand puts
-piece : (c : tie.In-loop2 Inv-loop2 μ-loop2 Inv-loop μ-loop)
-    → let k = c .before .before .before .before .before in
-    let a = k .before .before .before .before .before .before .before .before .args in
-    let by = k .before .strides .result in
-    Piece (a .grid) (a .row) (a .column) (c .before .loop2 .b) (c .before .before .before .before .loop .r) 0 (k .before .before .actual-columns .result)
-    (k .sample-place .result + c .before .loop2 .b * by .band + c .before .before .before .before .loop .r * by .row) (by .column)
-piece c =
-    let k = c .before .before .before .before .before in
-    let s = k .before .before .before .before .before .before .before .before in
-    even-piece (s .args .grid) (facts _ (s .pre .1 .accepted)) (s .args .row) (s .args .column) (c .before .loop2 .b) (c .before .before .before .before .loop .r)
-    (s .pre .0) (s .pre .1 .block) (c .loop2-test .taken) (in-row c) (k .before .before .actual-columns .ensures) (k .sample-place .ensures) (k .before .strides .ensures)
+-- the image has kept its length
+same-size : (c : tie.In-loop2 Inv-loop2 μ-loop2 Inv-loop μ-loop) → length (c .before .loop2 .image) ≡ length (now (c .before .before .before .before .before .before .before .before .before .before .before .before .before .before .before .before .before .before .args .image))
+same-size c = omega (arith, c .before .loop2 .inv .1, c .before .before .before .before .before .before .before .loop .inv .1 .size)
 
-can : (c : tie.In-loop2 Inv-loop2 μ-loop2 Inv-loop μ-loop)
-    → let k = c .before .before .before .before .before in
-    let a = k .before .before .before .before .before .before .before .before .args in
-    let by = k .before .strides .result in
+can-turn : (c : tie.In-loop2 Inv-loop2 μ-loop2 Inv-loop μ-loop)
+    → let k = c .before .before .before .before .before .before .before .before in
+    let a = k .before .before .before .before .before .before .before .before .before .before .args in
     let b = c .before .loop2 .b in
-    let r = c .before .before .before .before .loop .r in
-    let columns = k .before .before .actual-columns .result in
-    let size = k .before .before .before .before .sample-bytes .result in
-    CanWrite (now (a .«data»)) (c .before .loop2 .image) ((b * k .before .before .before .actual-rows .result + r) * columns * size) size
-    (k .sample-place .result + b * by .band + r * by .row) (by .column) (a .grid .nbpp) columns
-can c =
-    let s = c .before .before .before .before .before .before .before .before .before .before .before .before .before in
-    can-write (s .args .grid) (s .args .row) (s .args .column) (c .before .loop2 .b) (c .before .before .before .before .loop .r) (now (s .args .«data»)) (c .before .loop2 .image)
-    (stays-writable (s .pre .1) (omega (arith, c .before .loop2 .inv .1, c .before .before .before .before .loop .inv .1))) (sides (c .before .before .before .before .before)) (piece c) (omega arith)
+    let d = c .before .before .before .before .before .before .before .loop .next in
+    let line = k .before .line-samples .result in
+    let by = k .before .before .before .strides .result in
+    let size = k .before .before .before .before .before .before .sample-bytes .result in
+    CanWrite (now (a .«data»)) (c .before .loop2 .image) ((b * (k .before .before .before .before .before .actual-rows .result * k .before .before .before .before .actual-columns .result) + d) * size) size
+    (k .before .before .sample-place .result + d / line * by .row + d % line * by .column + b * by .band) (by .column) (a .grid .nbpp) (c .before .before .before .before .before .least .result)
+can-turn c = can (c .before .before .before .before .before) (c .before .loop2 .b) (c .before .loop2 .image) (c .loop2-test .taken) (same-size c)
 
 cast-width : tie.Need-cast-width Inv-loop2 μ-loop2 Inv-loop μ-loop
 cast-width c = search needs
@@ -85,6 +136,11 @@ actual-rows-requires c κs = let s = c .before .before .before .before in (s .pr
 actual-columns-requires : tie.Need-actual-columns-requires Inv-loop2 μ-loop2 Inv-loop μ-loop
 actual-columns-requires c κs = let s = c .before .before .before .before .before in (s .pre .1 .accepted, s .pre .1 .block .in-column)
 
+mul-plane : tie.Need-mul-plane Inv-loop2 μ-loop2 Inv-loop μ-loop
+mul-plane c =
+    let s = c .before .before .before .before .before .before in
+    record { fits = rw (c .before .actual-rows .ensures, c .actual-columns .ensures) (plane-fits (s .args .grid) (facts _ (s .pre .1 .accepted)) (s .args .row) (s .args .column)) }
+
 strides-requires : tie.Need-strides-requires Inv-loop2 μ-loop2 Inv-loop μ-loop
 strides-requires c κs = let s = c .before .before .before .before .before .before in (s .pre .1 .accepted, s .pre .1 .block .in-column)
 
@@ -95,14 +151,54 @@ sample-place-requires c κs =
     let t = s .pre .1 .block in
     (s .pre .1 .accepted, record { block = t; in-b = f .sides .bands-pos; in-r = rows-pos _ f _ (t .in-row); in-c = columns-pos _ f _ (t .in-column) })
 
+line-samples-requires : tie.Need-line-samples-requires Inv-loop2 μ-loop2 Inv-loop μ-loop
+line-samples-requires c κs = let s = c .before .before .before .before .before .before .before .before in (s .pre .1 .accepted, s .pre .1 .block)
+
+piece-samples-requires : tie.Need-piece-samples-requires Inv-loop2 μ-loop2 Inv-loop μ-loop
+piece-samples-requires c κs =
+    let s = c .before .before .before .before .before .before .before .before .before in
+    (lines (s .args .grid) (facts _ (s .pre .1 .accepted)) (s .args .row) (s .args .column) (s .pre .1 .block) (s .pre .0) (c .line-samples .ensures) .some, rw (c .before .before .strides .ensures) (omega (arith, wide (s .args .grid) (facts _ (s .pre .1 .accepted)) (s .args .row) (s .args .column), facts _ (s .pre .1 .accepted) .sides .nbpp-pos)))
+
 loop-holds : tie.Need-loop-holds Inv-loop2 μ-loop2 Inv-loop μ-loop
-loop-holds c = (omega arith, refl, iter-none _ _)
+loop-holds c =
+    let s = c .before .before .before .before .before .before .before .before .before .before in
+    (omega arith, pieces-none (s .args .grid) (facts _ (s .pre .1 .accepted)) (s .args .row) (s .args .column) (s .pre .1 .block) (even c) (now (s .args .«data»)) (now (s .args .image)) (λ i. c .before .before .before .before .before .before .before .before .before .slice-known .given i .fits))
+
+rem-least : tie.Need-rem-least Inv-loop2 μ-loop2 Inv-loop μ-loop
+rem-least c = even (c .before .before) .in-lines .some
+
+sub-least : tie.Need-sub-least Inv-loop2 μ-loop2 Inv-loop μ-loop
+sub-least c = le-of-lt (mod-lt _ (even (c .before .before) .in-lines .some))
+
+least-requires : tie.Need-least-requires Inv-loop2 μ-loop2 Inv-loop μ-loop
+least-requires c κs = search needs
+
+div-at : tie.Need-div-at Inv-loop2 μ-loop2 Inv-loop μ-loop
+div-at c = even (c .before .before .before) .in-lines .some
+
+mul-at : tie.Need-mul-at Inv-loop2 μ-loop2 Inv-loop μ-loop
+mul-at c = omega (arith, first-in (c .before))
+
+add-at : tie.Need-add-at Inv-loop2 μ-loop2 Inv-loop μ-loop
+add-at c = omega (arith, first-in (c .before))
+
+rem-at : tie.Need-rem-at Inv-loop2 μ-loop2 Inv-loop μ-loop
+rem-at c = even (c .before .before .before .before) .in-lines .some
+
+mul-at-2 : tie.Need-mul-at-2 Inv-loop2 μ-loop2 Inv-loop μ-loop
+mul-at-2 c = omega (arith, first-in (c .before .before))
+
+add-at-2 : tie.Need-add-at-2 Inv-loop2 μ-loop2 Inv-loop μ-loop
+add-at-2 c = omega (arith, first-in (c .before .before))
 
 cast-b-end : tie.Need-cast-b-end Inv-loop2 μ-loop2 Inv-loop μ-loop
 cast-b-end c = search needs
 
 loop2-holds : tie.Need-loop2-holds Inv-loop2 μ-loop2 Inv-loop μ-loop
-loop2-holds c = (omega arith, refl, iter-none _ _)
+loop2-holds c =
+    let head = c .before .before .before .before .before in
+    let s = head .before .before .before .before .before .before .before .before .before .before .before in
+    (omega arith, refl, λ im. pieces-enter (s .args .grid) (facts _ (s .pre .1 .accepted)) (s .args .row) (s .args .column) (s .pre .1 .block) (even (head .before)) (now (s .args .«data»)) im (head .loop .next) (c .before .before .before .least .result))
 
 mul-from : tie.Need-mul-from Inv-loop2 μ-loop2 Inv-loop μ-loop
 mul-from c = omega (arith, start-in c)
@@ -113,23 +209,14 @@ add-from c = omega (arith, start-in c)
 mul-from-2 : tie.Need-mul-from-2 Inv-loop2 μ-loop2 Inv-loop μ-loop
 mul-from-2 c = omega (arith, start-in c)
 
-mul-from-3 : tie.Need-mul-from-3 Inv-loop2 μ-loop2 Inv-loop μ-loop
-mul-from-3 c = omega (arith, start-in c)
+mul-write-samples : tie.Need-mul-write-samples Inv-loop2 μ-loop2 Inv-loop μ-loop
+mul-write-samples c = omega (arith, can-turn (c .before .before) .1 .1 .0)
 
-mul-at : tie.Need-mul-at Inv-loop2 μ-loop2 Inv-loop μ-loop
-mul-at c = omega (arith, can (c .before) .1 .1 .0)
-
-add-at : tie.Need-add-at Inv-loop2 μ-loop2 Inv-loop μ-loop
-add-at c = omega (arith, can (c .before) .1 .1 .0)
-
-mul-at-2 : tie.Need-mul-at-2 Inv-loop2 μ-loop2 Inv-loop μ-loop
-mul-at-2 c = omega (arith, can (c .before .before) .1 .1 .0)
-
-add-at-2 : tie.Need-add-at-2 Inv-loop2 μ-loop2 Inv-loop μ-loop
-add-at-2 c = omega (arith, can (c .before .before) .1 .1 .0)
+add-write-samples : tie.Need-add-write-samples Inv-loop2 μ-loop2 Inv-loop μ-loop
+add-write-samples c = omega (arith, can-turn (c .before .before) .1 .1 .0)
 
 write-samples-requires : tie.Need-write-samples-requires Inv-loop2 μ-loop2 Inv-loop μ-loop
-write-samples-requires c κs = can (c .before .before .before)
+write-samples-requires c κs = can-turn (c .before .before)
 
 add-b : tie.Need-add-b Inv-loop2 μ-loop2 Inv-loop μ-loop
 add-b c = omega arith
@@ -140,41 +227,42 @@ loop2-less c = omega arith
 loop2-again : tie.Need-loop2-again Inv-loop2 μ-loop2 Inv-loop μ-loop
 loop2-again c =
     let call = c .before .before in
-    let turn = call .before .before .before .before in
-    let inner = turn .before in
-    let head = inner .before .before .before in
-    let a = head .before .before .before .before .before .before .before .before .before .args in (
+    let turn = call .before .before .before in
+    let b = turn .before .loop2 .b in
+    let k = turn .before .before .before .before .before .before .before .before in
+    let s = k .before .before .before .before .before .before .before .before .before .before in (
       omega arith,
       omega (arith, call .write-samples .kept),
-      iter-turn (bandRow (a .grid) (a .row) (a .column) (now (a .«data»)) (head .loop .r)) (head .loop .image) (inner .loop2 .b) (inner .loop2 .inv .2)
-          (row-turn (a .grid) (a .row) (a .column) (now (a .«data»)) (inner .loop2 .b) (head .loop .r) (inner .loop2 .image) (sides (head .before)) (piece turn) refl (call .write-samples .ensures)),
+      λ im before.
+          pieces-turn (s .args .grid) (facts _ (s .pre .1 .accepted)) (s .args .row) (s .args .column) (s .pre .1 .block) (even k) (now (s .args .«data»)) im
+          (piece (turn .before .before .before .before .before) b (turn .loop2-test .taken))
+          (omega (arith, s .pre .1 .image-holds, same-size turn)) (turn .before .loop2 .inv .2 im before) (call .write-samples .ensures),
     )
 
-add-r : tie.Need-add-r Inv-loop2 μ-loop2 Inv-loop μ-loop
-add-r c = omega arith
+add-next : tie.Need-add-next Inv-loop2 μ-loop2 Inv-loop μ-loop
+add-next c = omega (arith, ends (c .before .before .before .before .before), plane-in (c .before .before .before .before .before .before .before .before))
 
 loop-less : tie.Need-loop-less Inv-loop2 μ-loop2 Inv-loop μ-loop
-loop-less c = omega arith
+loop-less c = omega (arith, ends (c .before .before .before .before .before))
 
 loop-again : tie.Need-loop-again Inv-loop2 μ-loop2 Inv-loop μ-loop
 loop-again c =
-    let head = c .before .before .before .before in
-    let a = head .before .before .before .before .before .before .before .before .before .args in
-    let e : c .before .loop2 .b ≡ a .grid .bands = omega arith in (
-      omega arith,
-      omega arith,
-      iter-turn (blockRow (a .grid) (a .row) (a .column) (now (a .«data»))) (now (a .image)) (head .loop .r) (head .loop .inv .2) (rw e at (c .before .loop2 .inv .2)),
+    let head = c .before .before .before .before .before .before .before in
+    let s = head .before .before .before .before .before .before .before .before .before .before .before in (
+      ends (c .before .before .before .before .before) .1,
+      pieces-leave (s .args .grid) (facts _ (s .pre .1 .accepted)) (s .args .row) (s .args .column) (s .pre .1 .block) (even (head .before)) (now (s .args .«data»)) (now (s .args .image)) (head .loop .next) (c .before .before .before .before .before .least .result)
+          (c .before .loop2 .b) (omega arith) (c .before .loop2 .inv .2 (now (s .args .image)) (head .loop .inv .1)),
     )
 
 same-length : tie.Need-same-length Inv-loop2 μ-loop2 Inv-loop μ-loop
-same-length c = c .before .loop .inv .1
+same-length c = c .before .loop .inv .1 .size
 
 returns : tie.Need-returns Inv-loop2 μ-loop2 Inv-loop μ-loop
-unfolding putBlock
 returns c =
     let k = c .before .before in
-    let e : c .before .loop .r ≡ k .before .before .before .actual-rows .result = omega arith in
-    rw (e, k .before .before .before .actual-rows .ensures) at (c .before .loop .inv .2)
+    let s = k .before .before .before .before .before .before .before .before .before .before in
+    pieces-done (s .args .grid) (facts _ (s .pre .1 .accepted)) (s .args .row) (s .args .column) (s .pre .1 .block) (even k) (now (s .args .«data»)) (now (s .args .image))
+    (λ i. k .before .before .before .before .before .before .before .before .before .slice-known .given i .fits) (s .pre .1 .image-holds) (c .before .loop .next) (omega arith) (c .before .loop .inv .1)
 
 pub put-even-spec : {M : Type 1} → statement M
 put-even-spec =
@@ -188,24 +276,33 @@ put-even-spec =
     sample-bytes-requires
     actual-rows-requires
     actual-columns-requires
+    mul-plane
     strides-requires
     sample-place-requires
+    line-samples-requires
+    piece-samples-requires
     loop-holds
+    rem-least
+    sub-least
+    least-requires
+    div-at
+    mul-at
+    add-at
+    rem-at
+    mul-at-2
+    add-at-2
     cast-b-end
     loop2-holds
     mul-from
     add-from
     mul-from-2
-    mul-from-3
-    mul-at
-    add-at
-    mul-at-2
-    add-at-2
+    mul-write-samples
+    add-write-samples
     write-samples-requires
     add-b
     loop2-less
     loop2-again
-    add-r
+    add-next
     loop-less
     loop-again
     same-length

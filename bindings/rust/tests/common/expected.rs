@@ -1,0 +1,141 @@
+//! Answers of document 01 that follow from the grid and the lengths, the marks or the table, computed here.
+
+use gezdunar::{Grid, ImageDataMask, InterleaveMode, Parsed, Refusal, EMPTY_BLOCK_OFFSET};
+
+/// A product of counts of an accepted grid.
+fn product(counts: &[u32]) -> usize {
+    counts.iter().map(|&count| count as usize).product()
+}
+
+/// t: the bytes that a band of a block takes.
+fn band_bytes(grid: &Grid) -> usize {
+    product(&[grid.nppbh, grid.nppbv, grid.nbpp]).div_ceil(8)
+}
+
+/// The bytes of a block in B, P and R.
+fn block_bytes(grid: &Grid) -> usize {
+    grid.bands as usize * band_bytes(grid)
+}
+
+fn blocks(grid: &Grid) -> usize {
+    product(&[grid.nbpr, grid.nbpc])
+}
+
+fn block_index(grid: &Grid, row: u32, column: u32) -> usize {
+    product(&[row, grid.nbpr]) + column as usize
+}
+
+/// The last row and column of a block inside the picture.
+fn last_actual(grid: &Grid, row: u32, column: u32) -> (usize, usize) {
+    let rows = (grid.nrows - row * grid.nppbv).min(grid.nppbv);
+    let columns = (grid.ncols - column * grid.nppbh).min(grid.nppbh);
+    (rows as usize - 1, columns as usize - 1)
+}
+
+/// Where a block's last actual sample ends, or at a width that is no byte multiple the t bytes of its last run.
+pub fn block_end(grid: &Grid, row: u32, column: u32) -> usize {
+    let (index, t, bands) = (block_index(grid, row, column), band_bytes(grid), grid.bands as usize);
+    let start = index * bands * t;
+    let last_band = match grid.imode {
+        InterleaveMode::S => ((bands - 1) * blocks(grid) + index) * t,
+        _ => start + (bands - 1) * t,
+    };
+    if !grid.nbpp.is_multiple_of(8) {
+        return last_band + t;
+    }
+    let (s, nppbh) = (grid.nbpp as usize / 8, grid.nppbh as usize);
+    let (r, c) = last_actual(grid, row, column);
+    s + match grid.imode {
+        InterleaveMode::B | InterleaveMode::S => last_band + (r * nppbh + c) * s,
+        InterleaveMode::P => start + ((r * nppbh + c) * bands + bands - 1) * s,
+        InterleaveMode::R => start + ((r * bands + bands - 1) * nppbh + c) * s,
+    }
+}
+
+fn block_inside(grid: &Grid, row: u32, column: u32) -> Result<(), Refusal> {
+    (row < grid.nbpc && column < grid.nbpr).then_some(()).ok_or(Refusal::BlockOutsideGrid)
+}
+
+pub fn whole_block<'a>(image: &'a [u8], grid: &Grid, row: u32, column: u32) -> Result<&'a [u8], Refusal> {
+    grid.check()?;
+    block_inside(grid, row, column)?;
+    if grid.imode == InterleaveMode::S {
+        return Ok(&[]);
+    }
+    let (start, bytes) = (block_index(grid, row, column) * block_bytes(grid), block_bytes(grid));
+    image.get(start..start + bytes).ok_or(Refusal::ImageEnds)
+}
+
+/// The grid's marks, by rows, then columns.
+fn marked(marks: &[u64], grid: &Grid) -> Result<Vec<bool>, Refusal> {
+    if marks.len() < blocks(grid).div_ceil(64) {
+        return Err(Refusal::MarksTooShort);
+    }
+    Ok((0..blocks(grid)).map(|i| marks[i / 64] >> (i % 64) & 1 == 1).collect())
+}
+
+pub fn progress(marks: &[u64], grid: &Grid) -> Result<usize, Refusal> {
+    grid.check()?;
+    Ok(marked(marks, grid)?.into_iter().filter(|&mark| mark).count())
+}
+
+pub fn finalize(image: &[u8], marks: &[u64], grid: &Grid) -> Result<(), Refusal> {
+    grid.check()?;
+    if image.len() < blocks(grid) * block_bytes(grid) {
+        return Err(Refusal::ImageTooShort);
+    }
+    match marked(marks, grid)?.into_iter().position(|mark| !mark) {
+        Some(i) => Err(Refusal::UnmarkedBlock { row: i as u32 / grid.nbpr, column: i as u32 % grid.nbpr }),
+        None => Ok(()),
+    }
+}
+
+/// A big-endian number in a table.
+fn number(table: &[u8], from: usize, bytes: usize) -> u32 {
+    table[from..from + bytes].iter().fold(0, |number, &byte| number << 8 | u32::from(byte))
+}
+
+pub fn mask_parse(table: &[u8], grid: &Grid) -> Result<Parsed, Refusal> {
+    grid.check()?;
+    if table.len() < 10 {
+        return Err(Refusal::TableTooShort);
+    }
+    let [block, pad, bits] = [4, 6, 8].map(|from| number(table, from, 2) as u16);
+    if ![0, 4].contains(&block) || ![0, 4].contains(&pad) {
+        return Err(Refusal::RecordLength);
+    }
+    if bits > 32 {
+        return Err(Refusal::PadCodeLength);
+    }
+    let bands = if grid.imode == InterleaveMode::S { grid.bands } else { 1 };
+    let (code, records) = (usize::from(bits.div_ceil(8)), product(&[grid.nbpr, grid.nbpc, bands]));
+    let used = 10 + code + records * usize::from(block + pad);
+    if table.len() < used {
+        return Err(Refusal::TableEnds);
+    }
+    let mask = ImageDataMask {
+        image_data_offset: number(table, 0, 4),
+        block_mask_record_length: block,
+        pad_pixel_mask_record_length: pad,
+        pad_pixel_code_length: bits,
+        pad_pixel_code: number(table, 10, code),
+    };
+    Ok(Parsed { mask, used })
+}
+
+/// Is a band of a block present, and its offset.
+pub fn lookup(table: &[u8], grid: &Grid, row: u32, column: u32, band: u32) -> Result<(bool, Option<u32>), Refusal> {
+    let mask = mask_parse(table, grid)?.mask;
+    block_inside(grid, row, column)?;
+    if band >= grid.bands {
+        return Err(Refusal::NoSuchBand);
+    }
+    if mask.block_mask_record_length == 0 {
+        return Ok((true, None));
+    }
+    let band = if grid.imode == InterleaveMode::S { band as usize } else { 0 };
+    let record = block_index(grid, row, column) + band;
+    let offset = number(table, 10 + usize::from(mask.pad_pixel_code_length.div_ceil(8)) + 4 * record, 4);
+    let given = (offset != EMPTY_BLOCK_OFFSET).then_some(offset);
+    Ok((given.is_some(), given))
+}
