@@ -7,6 +7,7 @@ use frame::Shape;
 use grid::Grid;
 use grid::bands::band_count;
 use grid::bands::bands_below;
+use reading::refused;
 
 mod across;
 mod cut;
@@ -92,12 +93,7 @@ pub fn read_window(
         out.len(),
     );
     if number != 0 {
-        return Shape {
-            number,
-            bands: 0,
-            rows: 0,
-            columns: 0,
-        };
+        return refused(number);
     }
     let height = rows as usize;
     let width = columns as usize;

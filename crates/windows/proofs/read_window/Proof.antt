@@ -11,8 +11,11 @@ use Rattle.windows.proofs.read_window.Tie as tie
 window-number-requires : tie.Need-window-number-requires
 window-number-requires c κs = search needs
 
+refused-requires : tie.Need-refused-requires
+refused-requires c κs = search needs
+
 returns : tie.Need-returns
-returns c = window-refused _ _ _ _ (c .before .window-number .ensures) (c .if1 .taken)
+returns c = rw (c .refused .ensures) (window-refused _ _ _ _ (c .before .before .window-number .ensures) (c .before .if1 .taken))
 
 read-rectangle-requires : tie.Need-read-rectangle-requires
 read-rectangle-requires c κs = search needs
@@ -35,6 +38,7 @@ read-window-spec =
     tie.close
     (tie.spec
     window-number-requires
+    refused-requires
     returns
     read-rectangle-requires
     band-count-requires
