@@ -10,7 +10,7 @@ use crate::bytes::put_be;
 use crate::unpack::unpack;
 
 // Samples of `size` bytes, one every `step` bytes from index `at` of `src` on.
-fn gather_any(
+pub fn gather_any(
     src: &[u8],
     at: usize,
     step: usize,

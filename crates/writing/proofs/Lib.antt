@@ -6,3 +6,4 @@ pub mod Rows
 pub mod Bounds
 pub mod Stored
 pub mod EvenRuns
+pub mod Pixels

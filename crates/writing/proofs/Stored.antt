@@ -76,11 +76,16 @@ module _ (g : Grid) (f : Facts g) (row column : ℕ) where
   columnOf : ℕ → ℕ
   columnOf o = o % actualColumns g column
 
-  in-data : (o : ℕ) → inData g row column (bandOf o) (rowOf o) (columnOf o) ≡ o
-  unfolding bandOf rowOf columnOf
-  in-data o =
+  -- its band, row and column tell which it is
+  pub from-digits : (o : ℕ)
+      → inData g row column (o / actualColumns g column / actualRows g row) (o / actualColumns g column % actualRows g row) (o % actualColumns g column) ≡ o
+  from-digits o =
       ap (λ (x : ℕ). x * actualColumns g column + o % actualColumns g column) (div-add-mod' (o / actualColumns g column) (actualRows g row))
       ∙ div-add-mod' o (actualColumns g column)
+
+  in-data : (o : ℕ) → inData g row column (bandOf o) (rowOf o) (columnOf o) ≡ o
+  unfolding bandOf rowOf columnOf
+  in-data o = from-digits o
 
   sample-of : (o : ℕ) → Block g row column → o < g .bands * actualRows g row * actualColumns g column → Sample g row column (bandOf o) (rowOf o) (columnOf o)
   unfolding bandOf rowOf columnOf

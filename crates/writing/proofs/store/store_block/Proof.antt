@@ -40,23 +40,38 @@ clear-runs-requires c κs = let w = c .before .before .before .before .before .p
 stands-evenly-requires : tie.Need-stands-evenly-requires
 stands-evenly-requires c κs = search needs
 
+by-pixels-requires : tie.Need-by-pixels-requires
+by-pixels-requires c κs = search needs
+
+put-pixels-requires : tie.Need-put-pixels-requires
+put-pixels-requires c κs = (
+  sym (c .before .before .before .before .stands-evenly .ensures) ∙ c .before .before .before .if2 .taken,
+  (c .before .before .by-pixels .ensures (c .before .if3 .taken), stays-writable (c .before .before .before .before .before .before .before .before .before .pre) (cleared (c .before .before .before .before .before) .0)),
+)
+
 put-even-requires : tie.Need-put-even-requires
-put-even-requires c κs = (sym (c .before .before .stands-evenly .ensures) ∙ c .before .if2 .taken, stays-writable (c .before .before .before .before .before .before .before .pre) (cleared (c .before .before .before) .0))
+put-even-requires c κs = (sym (c .before .before .before .before .stands-evenly .ensures) ∙ c .before .before .before .if2 .taken, stays-writable (c .before .before .before .before .before .before .before .before .before .pre) (cleared (c .before .before .before .before .before) .0))
 
 put-packed-requires : tie.Need-put-packed-requires
 put-packed-requires c κs = stays-writable (c .before .before .before .before .before .before .before .pre) (cleared (c .before .before .before) .0)
 
 same-length : tie.Need-same-length
-same-length c = omega (arith, c .before .before .put-even .kept, cleared (c .before .before .before .before .before .before) .0)
+same-length c = omega (arith, c .before .before .put-pixels .kept, cleared (c .before .before .before .before .before .before .before .before) .0)
 
 returns : tie.Need-returns
-returns c = c .before .before .put-even .ensures ∙ cleared (c .before .before .before .before .before .before) .1
+returns c = c .before .before .put-pixels .ensures ∙ cleared (c .before .before .before .before .before .before .before .before) .1
 
 same-length-2 : tie.Need-same-length-2
-same-length-2 c = omega (arith, c .before .before .put-packed .kept, cleared (c .before .before .before .before .before .before) .0)
+same-length-2 c = omega (arith, c .before .before .put-even .kept, cleared (c .before .before .before .before .before .before .before .before) .0)
 
 returns-2 : tie.Need-returns-2
-returns-2 c = c .before .before .put-packed .ensures ∙ cleared (c .before .before .before .before .before .before) .1
+returns-2 c = c .before .before .put-even .ensures ∙ cleared (c .before .before .before .before .before .before .before .before) .1
+
+same-length-3 : tie.Need-same-length-3
+same-length-3 c = omega (arith, c .before .before .put-packed .kept, cleared (c .before .before .before .before .before .before) .0)
+
+returns-3 : tie.Need-returns-3
+returns-3 c = c .before .before .put-packed .ensures ∙ cleared (c .before .before .before .before .before .before) .1
 
 pub store-block-spec : {M : Type 1} → statement M
 store-block-spec =
@@ -65,9 +80,13 @@ store-block-spec =
     is-byte-multiple-requires
     clear-runs-requires
     stands-evenly-requires
+    by-pixels-requires
+    put-pixels-requires
     put-even-requires
     put-packed-requires
     same-length
     returns
     same-length-2
-    returns-2)
+    returns-2
+    same-length-3
+    returns-3)
