@@ -85,7 +85,7 @@ impl<'a> Reader<'a> {
     }
 }
 
-// A block read by a reader that is made for it. Who calls it has slices and numbers, and no reader.
+// The samples of a block by a reader that is made for the call, for callers that have the image and the grid apart.
 pub fn read_block(
     image: &[u8],
     grid: Grid,
