@@ -15,7 +15,8 @@ use Rattle.samples.specs.Samples.{values}
 use Rattle.samples.specs.Patched.{tabulate}
 use Rattle.marks.specs.Marks.{marked, mark, count, firstFrom}
 use Rattle.frame.specs.Reads.{q6, q7, q10, crosses, bytesOf, filled, sampleAt, pictureAt, blockNumber, blockRead, windowNumber, windowOf, window}
-use Rattle.frame.specs.Writes.{iter, q11, q12, q13, q14, startNumber, writeNumber as blockWriteNumber, progressNumber, finishNumber, progressAnswer, finishAnswer, startBy, start, dataAt, putBlock, clearRuns, storeBy, writeBy as blockWriteBy, write, progress, finish}
+use Rattle.bits.specs.Turns.{iter}
+use Rattle.frame.specs.Writes.{q11, q12, q13, q14, startNumber, writeNumber as blockWriteNumber, progressNumber, finishNumber, progressAnswer, finishAnswer, startBy, start, dataAt, putBlock, clearRuns, storeBy, writeBy as blockWriteBy, write, progress, finish}
 use Rattle.mask.specs.Table.{tableSize, tableBytes}
 use Rattle.mask.specs.Mask.{q17, q18, q20, q21, q22, writeNumber, writeBy, toBytes}
 use Rattle.figures.specs.Figures.{Figure, figures, corner, readOf, laid, imageWith, runOf, maskOf}

@@ -20,7 +20,8 @@ use Rattle.grid.specs.Layout.{runByte, place, Block, Sample}
 use Rattle.grid.proofs.Accepted.{index-lt}
 use Rattle.marks.specs.Marks.{markWords}
 use Rattle.frame.specs.Writes.{dataAt, putBlock, clearRuns, storeBy, storeBlock, startBy, start}
-use Rattle.frame.proofs.Loops.{iter-keep, iter3-keep}
+use Rattle.bits.proofs.Turns.{iter-keep}
+use Rattle.frame.proofs.Loops.{iter3-keep}
 use Rattle.frame.proofs.Numbers.{Enough, start-facts}
 
 -- ---- what each part of a store keeps

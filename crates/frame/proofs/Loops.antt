@@ -1,18 +1,12 @@
--- What a loop keeps, and what one of its turns brings about.
+-- What a turn of a loop brings about, and three loops inside each other.
 -- Assumes nothing.
 use Prim.Native.Nat.{ℕ, zero, suc, _<_}
 use mathlib.Core.Path.{_≡_, sym, subst}
 use mathlib.Core.Logic.{_≢_}
 use native.Mathlib.Omega.{arith}
 use native.Mathlib.Decide.{ℕ-discrete}
-use Rattle.frame.specs.Writes.{iter}
-
--- what every turn keeps
-pub iter-keep : {A : Type 0} (P : A → Type 0) (n : ℕ) (f : ℕ → A → A) (a : A) → ((k : ℕ) → k < n → (x : A) → P x → P (f k x)) → P a
-    → P (iter n f a)
-unfolding iter
-iter-keep P zero f a s p = p
-iter-keep P (suc n) f a s p = s n (omega arith) (iter n f a) (iter-keep P n f a (λ k h. s k (omega arith)) p)
+use Rattle.bits.specs.Turns.{iter}
+use Rattle.bits.proofs.Turns.{iter-keep}
 
 -- what turn k brings about, given what every turn keeps, and every other turn keeps
 pub iter-hit : {A : Type 0} (P Q : A → Type 0) (n : ℕ) (f : ℕ → A → A) (a : A) (k : ℕ) → k < n

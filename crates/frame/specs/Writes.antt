@@ -7,6 +7,7 @@ use lib.Dec.{leb, eqb}
 use lib.ListN.{length, replicate}
 use Rattle.bits.specs.Bits.{putBits, beAt}
 use Rattle.bits.specs.Over.{over}
+use Rattle.bits.specs.Turns.{iter}
 use Rattle.grid.specs.declared.Grid.{Grid}
 use Rattle.grid.specs.Questions.{ask, every}
 use Rattle.grid.specs.Check.{askGrid}
@@ -16,11 +17,6 @@ use Rattle.marks.specs.declared.FirstUnmarked.{FirstUnmarked}
 use Rattle.marks.specs.Marks.{markWords, marked, mark, count, firstNot, unmarkedNumber, unmarkedRow, unmarkedColumn}
 use Rattle.frame.specs.declared.Answer.{Answer}
 use Rattle.frame.specs.Reads.{q6}
-
--- n turns of a loop
-unfoldable pub iter {ℓ} : {A : Type ℓ} → ℕ → (ℕ → A → A) → A → A
-iter zero f a = a
-iter (suc n) f a = f n (iter n f a)
 
 -- ---- questions
 

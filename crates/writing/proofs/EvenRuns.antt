@@ -1,7 +1,7 @@
 -- The runs of a block whose samples stand evenly, and that the numbers that a write of one computes stay below their limits.
 -- Assumes nothing.
 use Prim.Native.Nat.{ℕ, _+_, _-_, _*_, _/_, _%_, _^_, min, _≤_, _<_}
-use mathlib.Core.Path.{_≡_, refl, ap, ap₂, _∙_}
+use mathlib.Core.Path.{_≡_, refl, sym, ap, ap₂, _∙_}
 use mathlib.Core.Bool.{true}
 use mathlib.Core.Logic.{_⊎_, inl, inr, ⊎-elim}
 use mathlib.Core.List.{List}
@@ -12,8 +12,11 @@ use borrow.Author.Tests.{eq-eqb}
 use lib.Arith.{digits-lt, digits-div, digits-mod}
 use lib.ListN.{length}
 use Rattle.bits.specs.Bits.{Bytes}
+use Rattle.bits.specs.Turns.{iter}
 use Rattle.bits.proofs.Bits.{within}
-use Rattle.samples.specs.Samples.{sideBySide, putSpaced}
+use Rattle.bits.proofs.Turns.{iter-steps}
+use Rattle.samples.proofs.Samples.{length-putSpaced}
+use Rattle.rows.specs.Rows.{Movable, rowWritten}
 use Rattle.grid.specs.declared.Grid.{Grid}
 use Rattle.grid.specs.declared.Strides.{Strides}
 use Rattle.grid.specs.Sizes.{sampleBytes, imageBytes, actualRows, actualColumns}
@@ -182,6 +185,36 @@ module _ (g : Grid) (f : Facts g) (row column : ℕ) (t : Block g row column) {p
             ∙ omega arith;
       })
 
+  -- m lines from sample d on, as the code has them: whole ones where there are several
+  pub record Together (d n m : ℕ) : Type 0 where
+    pub piece-is : n ≡ min most (line - d % line)
+    pub samples : 0 < n
+    pub some : 0 < m
+    pub in-plane : d + m * n ≤ plane
+    pub whole : (m ≡ 1) ⊎ (n ≡ line)
+
+  moved : {d d′ n at at′ step : ℕ} → d ≡ d′ → at ≡ at′ → Run g row column d n at step → Run g row column d′ n at′ step
+  moved ed ea run = rw (sym ed, sym ea) run
+
+  -- line i of them
+  pub line-run : (b d n m i : ℕ) → b < g .bands → Together d n m → i < m
+      → Run g row column (b * plane + d + i * n) n (first + d / line * by .row + d % line * by .column + b * by .band + i * by .row) (by .column)
+  line-run b d n m i hb u hi = go (u .whole)
+    where
+      go : (m ≡ 1) ⊎ (n ≡ line) → Run g row column (b * plane + d + i * n) n (first + d / line * by .row + d % line * by .column + b * by .band + i * by .row) (by .column)
+      go (inl e) =
+          let z : i ≡ 0 = omega arith in
+          moved (rw z (omega arith)) (rw z (omega arith)) (piece-run b d n hb (omega (arith, u .samples, u .in-plane, within 0 m n (u .some))) (u .piece-is))
+      go (inr e) =
+          let some : 0 < line = k .in-lines .some in
+          let low : d % line ≡ 0 = omega (arith, u .piece-is, mod-lt d some) in
+          let x : d + i * n ≡ (d / line + i) * line + 0 = rw e (omega (arith, div-add-mod' d line)) in
+          let q : (d + i * n) / line ≡ d / line + i = ap (λ (y : ℕ). y / line) x ∙ digits-div (d / line + i) some in
+          let r : (d + i * n) % line ≡ d % line = ap (λ (y : ℕ). y % line) x ∙ digits-mod (d / line + i) some ∙ sym low in
+          let last : i * n + n ≤ m * n = within i m n hi in
+          moved (omega arith) (rw (q, r) (omega arith))
+          (piece-run b (d + i * n) n hb (omega (arith, u .samples, u .in-plane)) (u .piece-is ∙ ap (λ (y : ℕ). min most (line - y)) (sym r)))
+
   module _ (dat image : List ℕ) where
     pub pieces-none : Bytes image → Stored g row column dat (Before plane 0) image image
     pieces-none b = stored-none g f row column dat image b (λ o h. omega arith)
@@ -190,23 +223,51 @@ module _ (g : Grid) (f : Facts g) (row column : ℕ) (t : Block g row column) {p
         → Stored g row column dat (Within plane d n 0) image after
     pieces-enter d n s = stored-less g f row column dat image s (λ b r c h. ⊎-elim (λ l. l) (λ l. absurd (omega (arith, l .0))))
 
-    pub pieces-turn : {b d n at step : ℕ} → Run g row column (b * plane + d) n at step → {before after : List ℕ} → imageBytes g ≤ length before
-        → Stored g row column dat (Within plane d n b) image before
-        → after ≡ putSpaced (sideBySide dat ((b * plane + d) * size) size) (g .nbpp) at step n before
-        → Stored g row column dat (Within plane d n (b + 1)) image after
-    pieces-turn {b} {d} {n} run fits s ea = stored-turn g f row column dat image run (k .size-is) refl fits s ea less
+    -- the same, and the first i of m lines of n samples of band b
+    Partly : (d n m b i o : ℕ) → Type 0
+    Partly d n m b i o = Within plane d (m * n) b o ⊎ ((o / plane ≡ b) × (o % plane < d + i * n))
+
+    -- m lines of band b put, each a run
+    pub pieces-turn : (b d n m at down : ℕ) {step : ℕ} → ((i : ℕ) → i < m → Run g row column (b * plane + d + i * n) n (at + i * down) step)
+        → {before after : List ℕ} → imageBytes g ≤ length before
+        → Stored g row column dat (Within plane d (m * n) b) image before
+        → after ≡ iter m (rowWritten dat ((b * plane + d) * size) (n * size) size (g .nbpp) at down step n) before
+        → Stored g row column dat (Within plane d (m * n) (b + 1)) image after
+    unfolding Partly
+    pieces-turn b d n m at down {step} runs {before} fits s ea =
+        rw ea (stored-less g f row column dat image
+        (iter-steps (λ i ys. (length ys ≡ length before) × Stored g row column dat (Partly d n m b i) image ys) m (rowWritten dat ((b * plane + d) * size) (n * size) size (g .nbpp) at down step n) before
+        turn (refl, stored-less g f row column dat image s (λ b′ r c t. enter _)) .1)
+        (λ b′ r c t. leave _))
       where
-        less : (o : ℕ) → Within plane d n (b + 1) o → (b * plane + d ≤ o → o < b * plane + d + n → ⊥) → Within plane d n b o
-        less o (inl l) ne = inl l
-        less o (inr h) ne = go (decLt (o / plane) b) (decLt (o % plane) d)
+        enter : (o : ℕ) → Partly d n m b 0 o → Within plane d (m * n) b o
+        enter o (inl h) = h
+        enter o (inr h) = inl (omega (arith, h .1))
+
+        leave : (o : ℕ) → Within plane d (m * n) (b + 1) o → Partly d n m b m o
+        leave o (inl l) = inl (inl l)
+        leave o (inr h) = go (decLt (o / plane) b)
           where
-            go : Dec (o / plane < b) → Dec (o % plane < d) → Within plane d n b o
-            go (yes l) m = inr (l, h .1)
-            go (no l) (yes m) = inl m
-            go (no l) (no m) =
-                let q : b ≡ o / plane = omega (arith, h .0) in
-                let z : b * plane + o % plane ≡ o = ap (λ (x : ℕ). x * plane + o % plane) q ∙ div-add-mod' o plane in
-                absurd (ne (omega arith) (omega (arith, h .1)))
+            go : Dec (o / plane < b) → Partly d n m b m o
+            go (yes l) = inl (inr (l, h .1))
+            go (no l) = inr (omega (arith, h .0), h .1)
+
+        turn : (i : ℕ) → i < m → (ys : List ℕ) → (length ys ≡ length before) × Stored g row column dat (Partly d n m b i) image ys
+            → (length (rowWritten dat ((b * plane + d) * size) (n * size) size (g .nbpp) at down step n i ys) ≡ length before)
+            × Stored g row column dat (Partly d n m b (i + 1)) image (rowWritten dat ((b * plane + d) * size) (n * size) size (g .nbpp) at down step n i ys)
+        turn i h ys p =
+            let e : (b * plane + d) * size + i * (n * size) ≡ (b * plane + d + i * n) * size = omega arith in
+            (length-putSpaced _ (g .nbpp) (at + i * down) step n ys ∙ p .0, stored-turn g f row column dat image (runs i h) (k .size-is) e (omega (arith, p .0)) (p .1) refl less)
+          where
+            less : (o : ℕ) → Partly d n m b (i + 1) o → (b * plane + d + i * n ≤ o → o < b * plane + d + i * n + n → ⊥) → Partly d n m b i o
+            less o (inl l) ne = inl l
+            less o (inr q) ne = go (decLt (o % plane) (d + i * n))
+              where
+                go : Dec (o % plane < d + i * n) → Partly d n m b i o
+                go (yes l) = inr (q .0, l)
+                go (no l) =
+                    let z : b * plane + o % plane ≡ o = ap (λ (x : ℕ). x * plane + o % plane) (sym (q .0)) ∙ div-add-mod' o plane in
+                    absurd (ne (omega arith) (omega (arith, q .1)))
 
     pub pieces-leave : (d n b : ℕ) {after : List ℕ} → b ≡ g .bands → Stored g row column dat (Within plane d n b) image after
         → Stored g row column dat (Before plane (d + n)) image after

@@ -12,10 +12,10 @@ use borrow.Author.Tests.{eq-eqb}
 use lib.Arith.{digits-lt, digits-div, digits-mod}
 use lib.ListN.{length}
 use Rattle.bits.specs.Bits.{putBits, beAt, Bytes}
-use Rattle.bits.specs.Over.{over}
-use Rattle.samples.specs.Samples.{values, spaced, sideBySide, putSpaced}
+use Rattle.samples.specs.Samples.{spaced, sideBySide, putSpaced}
 use Rattle.samples.proofs.Samples.{length-putSpaced}
 use Rattle.samples.proofs.Moves.{spaced-bytes, putSpaced-run}
+use Rattle.rows.specs.Rows.{rowRead}
 use Rattle.grid.specs.declared.Grid.{Grid}
 use Rattle.grid.specs.Sizes.{sampleBytes, imageBytes, actualRows, actualColumns}
 use Rattle.grid.specs.Layout.{place, Block, Sample}
@@ -24,7 +24,8 @@ use Rattle.grid.proofs.Arith.{prod-le}
 use Rattle.grid.proofs.Accepted.{Facts, rows-le, columns-le, columns-pos}
 use Rattle.grid.proofs.Even.{place-even, whole-place, whole-stride}
 use Rattle.grid.proofs.SamplePlaces.{whole-width}
-use Rattle.frame.specs.Writes.{iter, putBlock}
+use Rattle.bits.specs.Turns.{iter}
+use Rattle.frame.specs.Writes.{putBlock}
 use Rattle.frame.proofs.StoredBits.{sample-end}
 use Rattle.writing.proofs.Stored.{inData, from-digits, Stored, Run, stored-none, stored-less, stored-turn, stored-done}
 
@@ -53,9 +54,9 @@ Columns r b n c b′ r′ c′ = (r′ < r) ⊎ ((r′ ≡ r) × ((b′ < b) ⊎
 abbrev Pixel : ℕ → ℕ → ℕ → ℕ → ℕ → Those
 Pixel r b n c k b′ r′ c′ = (r′ < r) ⊎ ((r′ ≡ r) × ((b′ < b) ⊎ ((b′ < b + n) × ((c′ < c) ⊎ ((c′ ≡ c) × (b′ < b + k))))))
 
--- the samples of n bands of column c put, as `put_columns` has them
+-- the samples of n bands of column c put, as `gather_rows` has them
 abbrev pub columnPut : List ℕ → ℕ → ℕ → ℕ → ℕ → ℕ → ℕ → ℕ → List ℕ → List ℕ
-columnPut dat from step size n to pixel c im = over im (to + c * pixel) (values (spaced dat (8 * (from + c * size)) (8 * step) (8 * size)) size n)
+columnPut dat from step size n to pixel c im = rowRead dat (8 * from) (8 * size) (8 * step) (8 * size) size n to pixel c im
 
 -- what the code has of the n bands of row r from band b on: the bytes of a sample, where they start in the data and how far apart bands stand there,
 -- where they start in the image and how far apart columns stand there
@@ -190,10 +191,11 @@ module _ (g : Grid) (f : Facts g) (row column : ℕ) where
 
         -- sample j of column c in the data
         column-value : Bytes dat → (c j : ℕ)
-            → spaced dat (8 * (from + c * size)) (8 * step) (8 * size) j ≡ beAt dat (inData g row column (b + j) r c * sampleBytes g) (sampleBytes g)
+            → spaced dat (8 * from + c * (8 * size)) (8 * step) (8 * size) j ≡ beAt dat (inData g row column (b + j) r c * sampleBytes g) (sampleBytes g)
         column-value bytes c j =
             let e : from + c * size + j * step ≡ inData g row column (b + j) r c * sampleBytes g = rw (k .from-is, k .step-is, k .size-is) (omega arith) in
-            sym (spaced-bytes dat (from + c * size) step size j bytes) ∙ ap₂ (beAt dat) e (k .size-is)
+            let p : 8 * from + c * (8 * size) ≡ 8 * (from + c * size) = omega arith in
+            ap (λ (i : ℕ). spaced dat i (8 * step) (8 * size) j) p ∙ sym (spaced-bytes dat (from + c * size) step size j bytes) ∙ ap₂ (beAt dat) e (k .size-is)
 
         -- the first m columns put
         columns-put : Bytes dat → (m : ℕ) → m ≤ actualColumns g column → {before : List ℕ} → imageBytes g ≤ length image
@@ -203,7 +205,7 @@ module _ (g : Grid) (f : Facts g) (row column : ℕ) where
         columns-put bytes zero hm fits s = s
         columns-put bytes (suc m) hm {before} fits s =
             let x : List ℕ = iter m (columnPut dat from step size n to pixel) before in
-            let v : ℕ → ℕ = spaced dat (8 * (from + m * size)) (8 * step) (8 * size) in
+            let v : ℕ → ℕ = spaced dat (8 * from + m * (8 * size)) (8 * step) (8 * size) in
             let so = columns-put bytes m (omega arith) fits s in
             let hm : m < actualColumns g column = omega arith in
             let room : to + m * pixel + n * size ≤ length x = omega (arith, so .size, column-end m hm) in
@@ -232,10 +234,10 @@ module _ (g : Grid) (f : Facts g) (row column : ℕ) where
                 go (yes l) = inl l
                 go (no l) = inr (omega arith, hb)
 
-        -- what `put_columns` requires
+        -- what `gather_rows` requires
         pub can-put : (columns : ℕ) → columns ≡ actualColumns g column
             → length dat ≡ g .bands * actualRows g row * actualColumns g column * sampleBytes g → imageBytes g ≤ length image
-            → (size ≤ 8) × (0 < n) × (from + columns * size + n * step ≤ length dat + step) × (to + columns * pixel + n * size ≤ length image + pixel)
+            → (size ≤ 8) × (0 < n) × (from + columns * size + n * step + size ≤ length dat + step + size) × (to + columns * pixel + n * size ≤ length image + pixel)
         can-put columns ec ed fits =
             let pos : 0 < actualColumns g column = columns-pos g f column (t .in-column) in
             let x : b * actualRows g row + r + 1 + n * actualRows g row ≤ g .bands * actualRows g row + actualRows g row

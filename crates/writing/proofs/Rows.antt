@@ -15,7 +15,8 @@ use Rattle.grid.specs.Strides.{columnStride, restOfRun}
 use Rattle.grid.proofs.Accepted.{Facts}
 use Rattle.grid.proofs.SamplePlaces.{steps}
 use Rattle.grid.proofs.Even.{place-along, rest-in, rest-pos}
-use Rattle.frame.specs.Writes.{iter, dataAt, putRow}
+use Rattle.bits.specs.Turns.{iter}
+use Rattle.frame.specs.Writes.{dataAt, putRow}
 
 -- ---- a piece of a row
 

@@ -1,9 +1,8 @@
 -- The loops of a store, as its definition has them.
 -- Assumes nothing.
 use Prim.Native.Nat.{ℕ, _+_, _*_, _≤_, _<_}
-use mathlib.Core.Path.{_≡_, refl, sym, ap, ap₂, _∙_}
+use mathlib.Core.Path.{_≡_, sym, ap₂, _∙_}
 use mathlib.Core.List.{List}
-use native.Mathlib.Numerals.{add-one}
 use native.Mathlib.Omega.{arith}
 use lib.ListN.{replicate}
 use Rattle.bits.specs.Over.{over}
@@ -12,18 +11,9 @@ use Rattle.grid.specs.Sizes.{bandBytes, imageBytes, blockIndex, actualColumns}
 use Rattle.grid.specs.Layout.{runByte, Block}
 use Rattle.grid.specs.Slots.{slot}
 use Rattle.grid.proofs.SamplePlaces.{run-is}
-use Rattle.frame.specs.Writes.{iter, putRow}
+use Rattle.bits.specs.Turns.{iter}
+use Rattle.frame.specs.Writes.{putRow}
 use Rattle.frame.proofs.Lengths.{run-inside}
-
--- where a loop starts, and a turn
-module _ {A : Type 0} (f : ℕ → A → A) (a : A) where
-  pub iter-none : a ≡ iter 0 f a
-  unfolding iter
-  iter-none = refl
-
-  pub iter-turn : (n : ℕ) {x y : A} → x ≡ iter n f a → y ≡ f n x → y ≡ iter (n + 1) f a
-  unfolding iter
-  iter-turn n e h = h ∙ ap (f n) e ∙ ap (λ (k : ℕ). iter k f a) (sym (add-one n))
 
 -- run k of a block cleared
 abbrev pub runCleared : Grid → ℕ → ℕ → ℕ → List ℕ → List ℕ

@@ -7,6 +7,7 @@ use marks::FirstUnmarked;
 
 mod check;
 mod clear;
+mod even;
 mod store;
 
 use crate::check::block_number;

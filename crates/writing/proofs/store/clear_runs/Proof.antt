@@ -7,8 +7,10 @@ use borrow.Author.Needs.{needs}
 use denote.Ref.{now}
 use lib.ListN.{length}
 use Rattle.grid.proofs.Accepted.{index-lt}
-use Rattle.frame.specs.Writes.{iter, clearRuns}
-use Rattle.writing.proofs.Turns.{iter-none, iter-turn, runCleared, run-fits, run-turn}
+use Rattle.bits.specs.Turns.{iter}
+use Rattle.frame.specs.Writes.{clearRuns}
+use Rattle.bits.proofs.Turns.{iter-none, iter-turn}
+use Rattle.writing.proofs.Turns.{runCleared, run-fits, run-turn}
 use Rattle.writing.proofs.store.clear_runs.Statement.{statement}
 use Rattle.writing.proofs.store.clear_runs.Tie as tie
 

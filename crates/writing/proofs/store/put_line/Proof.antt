@@ -10,7 +10,7 @@ use Rattle.grid.specs.declared.Strides.{Strides}
 use Rattle.grid.specs.Layout.{Sample}
 use Rattle.grid.proofs.Accepted.{facts}
 use Rattle.frame.specs.Writes.{putRow}
-use Rattle.writing.proofs.Turns.{iter-none}
+use Rattle.bits.proofs.Turns.{iter-none}
 use Rattle.writing.proofs.Rows.{Piece, Sides, piece-turn, next-piece}
 use Rattle.writing.proofs.Bounds.{stays-writable, StartFits, start-fits, CanWrite, can-write}
 use Rattle.writing.proofs.store.put_line.Statement.{statement}

@@ -6,8 +6,10 @@ use native.Mathlib.Omega.{arith}
 use borrow.Author.Needs.{needs}
 use denote.Ref.{now}
 use lib.ListN.{length}
-use Rattle.frame.specs.Writes.{iter, putBlock}
-use Rattle.writing.proofs.Turns.{iter-none, iter-turn, bandRow, blockRow}
+use Rattle.bits.specs.Turns.{iter}
+use Rattle.frame.specs.Writes.{putBlock}
+use Rattle.bits.proofs.Turns.{iter-none, iter-turn}
+use Rattle.writing.proofs.Turns.{bandRow, blockRow}
 use Rattle.writing.proofs.Bounds.{stays-writable}
 use Rattle.writing.proofs.store.put_packed.Statement.{statement}
 use Rattle.writing.proofs.store.put_packed.Tie as tie

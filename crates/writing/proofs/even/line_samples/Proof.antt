@@ -1,4 +1,4 @@
--- `writing::store::line_samples` meets its contract.
+-- `writing::even::line_samples` meets its contract.
 -- Assumes nothing.
 use borrow.Author.Needs.{needs}
 use mathlib.Core.Path.{ap₂}
@@ -6,8 +6,8 @@ use mathlib.Core.Logic.{inl, inr}
 use Prim.Native.Nat.{_*_}
 use Rattle.grid.proofs.Accepted.{facts}
 use Rattle.writing.proofs.EvenRuns.{plane-fits, row-fits}
-use Rattle.writing.proofs.store.line_samples.Statement.{statement}
-use Rattle.writing.proofs.store.line_samples.Tie as tie
+use Rattle.writing.proofs.even.line_samples.Statement.{statement}
+use Rattle.writing.proofs.even.line_samples.Tie as tie
 
 actual-rows-requires : tie.Need-actual-rows-requires
 actual-rows-requires c κs = search needs

@@ -1,10 +1,10 @@
--- `writing::store::piece_samples` meets its contract.
+-- `writing::even::piece_samples` meets its contract.
 -- Assumes nothing.
 use borrow.Author.Needs.{needs}
 use native.Mathlib.Omega.{arith}
 use native.Mathlib.Nat.{div-le-self}
-use Rattle.writing.proofs.store.piece_samples.Statement.{statement}
-use Rattle.writing.proofs.store.piece_samples.Tie as tie
+use Rattle.writing.proofs.even.piece_samples.Statement.{statement}
+use Rattle.writing.proofs.even.piece_samples.Tie as tie
 
 div-result : tie.Need-div-result
 div-result c = search needs

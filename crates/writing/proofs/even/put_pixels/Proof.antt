@@ -1,4 +1,4 @@
--- `writing::store::put_pixels` meets its contract: the rows before row r are put, and in the inner loop the first b bands of row r.
+-- `writing::even::put_pixels` meets its contract: the rows before row r are put, and in the inner loop the first b bands of row r.
 -- Assumes nothing.
 use mathlib.Core.Path.{_≡_, refl, ap}
 use mathlib.Core.List.{List}
@@ -14,8 +14,8 @@ use Rattle.writing.proofs.Stored.{Stored}
 use Rattle.writing.proofs.Rows.{Sides}
 use Rattle.writing.proofs.EvenRuns.{plane-fits}
 use Rattle.writing.proofs.Pixels.{step-fits, Of, Rows, Bands, Group, can-put, group-put, rows-none, row-enter, row-leave, rows-done}
-use Rattle.writing.proofs.store.put_pixels.Statement.{statement}
-use Rattle.writing.proofs.store.put_pixels.Tie as tie
+use Rattle.writing.proofs.even.put_pixels.Statement.{statement}
+use Rattle.writing.proofs.even.put_pixels.Tie as tie
 
 abbrev Inv-loop2 : tie.InvT-loop2
 Inv-loop2 image₀ grid row column «data» size bands rows columns step pixel r b₀ image b =
@@ -128,8 +128,8 @@ sample-place-requires c κs =
     let w = s .pre .1 .1 in
     (w .accepted, record { block = w .block; in-b = c .before .loop2-test .taken; in-r = rw (sides (c .before .before .before .before .before) .rows-is) at (c .before .before .before .loop-test .taken); in-c = columns-pos _ (facts _ (w .accepted)) _ (w .block .in-column) })
 
-put-columns-requires : tie.Need-put-columns-requires Inv-loop2 μ-loop2 Inv-loop μ-loop
-put-columns-requires c κs =
+gather-rows-requires : tie.Need-gather-rows-requires Inv-loop2 μ-loop2 Inv-loop μ-loop
+gather-rows-requires c κs =
     let p = c .before in
     let k = p .before .before .before .before .before .before in
     let s = k .before .before .before .before .before .before .before .before in
@@ -151,11 +151,11 @@ loop2-again c =
     let s = k .before .before .before .before .before .before .before .before in
     let w = s .pre .1 .1 in (
       group p .in-b,
-      omega (arith, call .put-columns .kept, p .before .before .before .loop2 .inv .1),
+      omega (arith, call .gather-rows .kept, p .before .before .before .loop2 .inv .1),
       λ im before.
           group-put (s .args .grid) (facts _ (w .accepted)) (s .args .row) (s .args .column) (now (s .args .«data»)) im (s .pre .0) (s .pre .1 .0 .0) (s .pre .1 .0 .1) (w .block) (group p)
           (λ i. k .before .before .before .before .before .before .shared-slice-known .given i .fits) (k .before .before .actual-columns .result) (sides k .columns-is)
-          (omega (arith, w .image-holds, before .size, p .before .before .before .before .before .loop .inv .1 .size)) (p .before .before .before .loop2 .inv .2 im before) (call .put-columns .ensures),
+          (omega (arith, w .image-holds, before .size, p .before .before .before .before .before .loop .inv .1 .size)) (p .before .before .before .loop2 .inv .2 im before) (call .gather-rows .ensures),
     )
 
 add-r : tie.Need-add-r Inv-loop2 μ-loop2 Inv-loop μ-loop
@@ -208,7 +208,7 @@ put-pixels-spec =
     mul-from-2
     mul-from-3
     sample-place-requires
-    put-columns-requires
+    gather-rows-requires
     add-b
     loop2-less
     loop2-again

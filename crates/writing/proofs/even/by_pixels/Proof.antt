@@ -1,4 +1,4 @@
--- `writing::store::by_pixels` meets its contract.
+-- `writing::even::by_pixels` meets its contract.
 -- Assumes nothing.
 use borrow.Author.Needs.{needs}
 use borrow.Author.Tests.{eqb-true}
@@ -6,8 +6,8 @@ use mathlib.Core.Path.{sym, ap, _∙_}
 use native.Mathlib.Omega.{arith}
 use Rattle.grid.specs.declared.Strides.{Strides}
 use Rattle.grid.proofs.Questions.{true-false}
-use Rattle.writing.proofs.store.by_pixels.Statement.{statement}
-use Rattle.writing.proofs.store.by_pixels.Tie as tie
+use Rattle.writing.proofs.even.by_pixels.Statement.{statement}
+use Rattle.writing.proofs.even.by_pixels.Tie as tie
 
 cast-width : tie.Need-cast-width
 cast-width c = search needs

@@ -1,0 +1,84 @@
+// Listed bands out of pixels, pixel by pixel: the bands of a pixel share their cache lines.
+ghost use mathlib.Core.Path.{_≡_};
+ghost use Prim.Native.Nat.{ℕ, _+_, _*_, _≤_, _<_};
+ghost use lib.ListN.{length, getD};
+ghost use Rattle.bits.specs.Turns.{iter};
+ghost use Rattle.rows.specs.Rows.{sampleRead, pixelRead};
+use samples::bytes::get_be;
+use samples::bytes::put_be;
+
+// The listed bands of the pixel at index `at` of `src`, in samples of `size` bytes, `band` bytes apart. They go to index `to` of `out` on, `plane` bytes apart.
+fn gather_pixel(
+    src: &[u8],
+    at: usize,
+    band: usize,
+    size: usize,
+    list: &[u32],
+    out: &mut [u8],
+    to: usize,
+    plane: usize,
+)
+    requires { ⌜ (size ≤ 8) × (((k : ℕ) → k < length (now list) → at + getD (now list) k 0 * band + size ≤ length (now src))) × (to + length (now list) * plane + size ≤ length (now out) + plane) ⌝ }
+    ensures { λ _. ⌜ now (out .exit) ≡ iter (length (now (list .entry))) (sampleRead (now (src .entry)) (now (list .entry)) at band size to plane) (now (out .entry)) ⌝ }
+{
+    for k in 0..list.len() {
+        let v = get_be(src, at + list[k] as usize * band, size);
+        put_be(out, to + k * plane, size, v);
+    }
+}
+
+// The listed bands of `count` pixels, which start `pixel` bytes apart from index `at` of `src` on. A band's samples go side by side to `out`.
+fn gather_listed_any(
+    src: &[u8],
+    at: usize,
+    pixel: usize,
+    band: usize,
+    size: usize,
+    list: &[u32],
+    count: usize,
+    out: &mut [u8],
+    to: usize,
+    plane: usize,
+)
+    requires { ⌜ (size ≤ 8) × (0 < length (now list)) × (((k : ℕ) → k < length (now list) → at + getD (now list) k 0 * band + count * pixel + size ≤ length (now src) + pixel)) × (to + length (now list) * plane + count * size ≤ length (now out) + plane) ⌝ }
+    ensures { λ _. ⌜ now (out .exit) ≡ iter count (pixelRead (now (src .entry)) (now (list .entry)) at pixel band size to plane) (now (out .entry)) ⌝ }
+{
+    for c in 0..count {
+        gather_pixel(
+            src,
+            at + c * pixel,
+            band,
+            size,
+            list,
+            out,
+            to + c * size,
+            plane,
+        );
+    }
+}
+
+// The same, with a loop of its own for each common size.
+pub fn gather_listed(
+    src: &[u8],
+    at: usize,
+    pixel: usize,
+    band: usize,
+    size: usize,
+    list: &[u32],
+    count: usize,
+    out: &mut [u8],
+    to: usize,
+    plane: usize,
+)
+    requires { ⌜ (size ≤ 8) × (0 < length (now list)) × (((k : ℕ) → k < length (now list) → at + getD (now list) k 0 * band + count * pixel + size ≤ length (now src) + pixel)) × (to + length (now list) * plane + count * size ≤ length (now out) + plane) ⌝ }
+    ensures { λ _. ⌜ now (out .exit) ≡ iter count (pixelRead (now (src .entry)) (now (list .entry)) at pixel band size to plane) (now (out .entry)) ⌝ }
+{
+    match size {
+        1 => gather_listed_any(src, at, pixel, band, 1, list, count, out, to, plane),
+        2 => gather_listed_any(src, at, pixel, band, 2, list, count, out, to, plane),
+        3 => gather_listed_any(src, at, pixel, band, 3, list, count, out, to, plane),
+        4 => gather_listed_any(src, at, pixel, band, 4, list, count, out, to, plane),
+        8 => gather_listed_any(src, at, pixel, band, 8, list, count, out, to, plane),
+        _ => gather_listed_any(src, at, pixel, band, size, list, count, out, to, plane),
+    }
+}
