@@ -2,12 +2,12 @@
 
 use std::hint::black_box;
 
-use gezdunar::{Bands, Grid, Shape, Sizes, Window};
+use gezdunar::{Bands, Grid, InterleaveMode, Shape, Sizes, Window};
 use original::owned_buffer::OwnedBuffer;
 
-use crate::buffers::{copy, source, source_of, Output};
+use crate::buffers::{source, source_of, Output};
 use crate::measure::{best, release, Side};
-use crate::moves::{apply, in_image, of_block};
+use crate::moves::{apply, at_once, back, of_image, Memcpy, Move};
 use crate::original::{self as rust, Block};
 use crate::report::Times;
 
@@ -28,34 +28,9 @@ pub fn decoded_bytes(grid: &Grid, block: Block, bands: Option<&[u32]>) -> usize 
     shape(grid, block, bands).bytes(sizes(grid).sample_bytes)
 }
 
-fn decode_block(image: &OwnedBuffer, grid: &Grid, block: Block, bands: Option<&[u32]>, out: &mut Output) {
-    let (image, out) = (black_box(image.as_bytes()), out.bytes());
-    gezdunar::decode_block(image, grid, block.0, block.1, 0, listed(bands), out).expect("a block of the grid");
-}
-
-pub fn decode(grid: &Grid, block: Block, bands: Option<&[u32]>) -> Times {
-    let image = source(sizes(grid).image_bytes);
-    let length = decoded_bytes(grid, block, bands);
-    let (mut out, mut copied) = (Output::new(length), Output::new(length));
-    let decoder = rust::decoder(grid, image.clone());
-
-    decode_block(&image, grid, block, bands, &mut out);
-    let samples = rust::decode_block(&decoder, block, bands);
-    let expected = rust::big_endian(grid.imode, sizes(grid).sample_bytes, samples);
-    assert!(out.bytes() == expected, "the samples differ: {grid:?}");
-    drop(expected);
-
-    Times::new(best([
-        Side::Call(&mut || release(rust::decode_block(&decoder, block, bands))),
-        Side::Call(&mut || decode_block(&image, grid, block, bands, &mut out)),
-        Side::Call(&mut || copy(image.as_bytes(), &mut copied)),
-    ]))
-}
-
-/// Against memcpy of the same rows out of the image, in B, R and S at byte multiples.
-pub fn decode_by_rows(grid: &Grid, block: Block) -> Times {
-    let image = source(sizes(grid).image_bytes);
-    let [mut out, mut copied] = [(); 2].map(|()| Output::new(decoded_bytes(grid, block, None)));
+/// Out of the image, where memcpy moves the block's own bytes.
+fn runs(grid: &Grid, block: Block, memcpy: Memcpy) -> Option<Vec<Move>> {
+    let is_plain = grid.imode != InterleaveMode::P && grid.nbpp % 8 == 0;
     let shape = shape(grid, block, None);
     let window = Window {
         row: block.0 * grid.nppbv,
@@ -63,14 +38,35 @@ pub fn decode_by_rows(grid: &Grid, block: Block) -> Times {
         rows: shape.rows as u32,
         columns: shape.columns as u32,
     };
-    let moves = of_block(grid, &window, block, in_image(grid, block));
+    (is_plain && memcpy == Memcpy::Runs).then(|| of_image(grid, &window))
+}
 
-    decode_block(&image, grid, block, None, &mut out);
-    apply(&moves, image.as_bytes(), &mut copied);
-    assert!(out.bytes() == copied.bytes(), "the samples differ: {grid:?}");
+fn decode_block(image: &OwnedBuffer, grid: &Grid, block: Block, bands: Option<&[u32]>, out: &mut Output) {
+    let (image, out) = (black_box(image.as_bytes()), out.bytes());
+    gezdunar::decode_block(image, grid, block.0, block.1, 0, listed(bands), out).expect("a block of the grid");
+}
 
-    Times::without_original(best([
-        Side::Call(&mut || decode_block(&image, grid, block, None, &mut out)),
+pub fn decode(grid: &Grid, block: Block, bands: Option<&[u32]>, memcpy: Memcpy) -> Times {
+    let image = source(sizes(grid).image_bytes);
+    let length = decoded_bytes(grid, block, bands);
+    let (mut out, mut copied) = (Output::new(length), Output::new(length));
+    let decoder = rust::decoder(grid, image.clone());
+    let runs = if bands.is_none() { runs(grid, block, memcpy) } else { None };
+
+    decode_block(&image, grid, block, bands, &mut out);
+    let samples = rust::decode_block(&decoder, block, bands);
+    let expected = rust::big_endian(grid.imode, sizes(grid).sample_bytes, samples);
+    assert!(out.bytes() == expected, "the samples differ: {grid:?}");
+    drop(expected);
+    if let Some(moves) = &runs {
+        apply(moves, image.as_bytes(), &mut copied);
+        assert!(out.bytes() == copied.bytes(), "memcpy moves other bytes: {grid:?}");
+    }
+
+    let moves = runs.unwrap_or_else(|| at_once(length));
+    Times::new(best([
+        Side::Call(&mut || release(rust::decode_block(&decoder, block, bands))),
+        Side::Call(&mut || decode_block(&image, grid, block, bands, &mut out)),
         Side::Call(&mut || apply(&moves, image.as_bytes(), &mut copied)),
     ]))
 }
@@ -102,12 +98,14 @@ pub fn encoded_bytes(grid: &Grid, block: Block) -> usize {
     (bands * rows * columns * grid.nbpp as usize).div_ceil(8)
 }
 
-pub fn encode(grid: &Grid, block: Block) -> Times {
+pub fn encode(grid: &Grid, block: Block, memcpy: Memcpy) -> Times {
     let data = source(decoded_bytes(grid, block, None));
     let host_data = source_of(&rust::host_order(sizes(grid).sample_bytes, data.as_bytes()));
     let mut frame = Frame::start(grid);
     let shape = shape(grid, block, None);
-    let mut copied = Output::new(encoded_bytes(grid, block));
+    let runs = runs(grid, block, memcpy).map(back);
+    let taken = encoded_bytes(grid, block);
+    let mut copied = Output::new(if runs.is_some() { sizes(grid).image_bytes } else { taken });
 
     frame.encode_block(grid, block, &data);
     let mut encoder = rust::encoder(grid);
@@ -116,11 +114,16 @@ pub fn encode(grid: &Grid, block: Block) -> Times {
     let expected = rust::finalize(encoder).expect("every block is marked");
     assert!(frame.image.bytes() == expected, "the images differ: {grid:?}");
     drop(expected);
+    if let Some(moves) = &runs {
+        apply(moves, data.as_bytes(), &mut copied);
+        assert!(frame.image.bytes() == copied.bytes(), "memcpy moves other bytes: {grid:?}");
+    }
 
+    let moves = runs.unwrap_or_else(|| at_once(taken));
     let mut encoder = rust::encoder(grid);
     Times::new(best([
         Side::Call(&mut || rust::encode_block(&mut encoder, block, shape, black_box(host_data.as_bytes()))),
         Side::Call(&mut || frame.encode_block(grid, block, &data)),
-        Side::Call(&mut || copy(data.as_bytes(), &mut copied)),
+        Side::Call(&mut || apply(&moves, data.as_bytes(), &mut copied)),
     ]))
 }

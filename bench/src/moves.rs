@@ -1,4 +1,4 @@
-//! Rows of samples that lie apart, moved by memcpy a row at a time.
+//! Samples moved by memcpy, from where they lie to where they go: one call for each run that lies together on both sides.
 
 use std::hint::black_box;
 use std::ops::Range;
@@ -15,6 +15,40 @@ pub struct Move {
     from: usize,
     to: usize,
     length: usize,
+}
+
+/// What memcpy does beside a row.
+#[derive(Clone, Copy, PartialEq)]
+pub enum Memcpy {
+    /// Moves the same bytes, where the samples of a row lie side by side in whole bytes, and otherwise as many at once.
+    Runs,
+    /// Moves as many bytes at once.
+    AtOnce,
+}
+
+/// So many bytes from the start of the source to the start of the output.
+pub fn at_once(length: usize) -> Vec<Move> {
+    vec![Move { from: 0, to: 0, length }]
+}
+
+/// In the order of the bytes that are read; those that follow each other on both sides are one.
+fn joined(mut moves: Vec<Move>) -> Vec<Move> {
+    moves.sort_by_key(|step| step.from);
+    let mut runs: Vec<Move> = Vec::new();
+    for next in moves {
+        match runs.last_mut() {
+            Some(run) if run.from + run.length == next.from && run.to + run.length == next.to => {
+                run.length += next.length;
+            }
+            _ => runs.push(next),
+        }
+    }
+    runs
+}
+
+/// The way back, in the same order.
+pub fn back(moves: Vec<Move>) -> Vec<Move> {
+    moves.into_iter().map(|Move { from, to, length }| Move { from: to, to: from, length }).collect()
 }
 
 pub fn apply(moves: &[Move], data: &[u8], out: &mut Output) {
@@ -70,7 +104,7 @@ pub fn in_answer(grid: &Grid, (row, column): Block) -> impl Fn(usize, usize, usi
 }
 
 /// Where a sample of a block starts in the image, at byte multiples, in B, R and S.
-pub fn in_image(grid: &Grid, (row, column): Block) -> impl Fn(usize, usize, usize) -> usize {
+fn in_image(grid: &Grid, (row, column): Block) -> impl Fn(usize, usize, usize) -> usize {
     let (mode, size, blocks) = (grid.imode, sizes(grid).sample_bytes, sizes(grid).blocks);
     let [bands, rows, columns, nbpr] = [grid.bands, grid.nppbv, grid.nppbh, grid.nbpr].map(|n| n as usize);
     let index = row as usize * nbpr + column as usize;
@@ -84,6 +118,12 @@ pub fn in_image(grid: &Grid, (row, column): Block) -> impl Fn(usize, usize, usiz
     }
 }
 
+/// What a window has of the image, at byte multiples, in B, R and S.
+pub fn of_image(grid: &Grid, window: &Window) -> Vec<Move> {
+    let blocks = crossed(grid, window).into_iter();
+    joined(blocks.flat_map(|block| of_block(grid, window, block, in_image(grid, block))).collect())
+}
+
 /// Rows in the order of R, to band order.
 pub fn to_band_sequential(pack: &Pack) -> Vec<Move> {
     let [rows, columns, bands] = [pack.rows, pack.columns, pack.bands].map(|n| n as usize);
@@ -91,10 +131,4 @@ pub fn to_band_sequential(pack: &Pack) -> Vec<Move> {
     let row = |y| (0..bands).map(move |band| (y * bands + band, band * rows + y));
     let lines = (0..rows).flat_map(row);
     lines.map(|(from, to)| Move { from: from * length, to: to * length, length }).collect()
-}
-
-/// Rows in band order, to the order of R.
-pub fn from_band_sequential(pack: &Pack) -> Vec<Move> {
-    let back = |Move { from, to, length }| Move { from: to, to: from, length };
-    to_band_sequential(pack).into_iter().map(back).collect()
 }

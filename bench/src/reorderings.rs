@@ -4,9 +4,9 @@ use std::hint::black_box;
 
 use gezdunar::{Bands, InterleaveMode, Refusal, Reordered};
 
-use crate::buffers::{copy, source, Output};
+use crate::buffers::{source, Output};
 use crate::measure::{best, release, Side};
-use crate::moves::{self, apply, Move};
+use crate::moves::{self, apply, at_once, back, Memcpy, Move};
 use crate::original::{self as rust, big_endian, CodecError};
 use crate::report::Times;
 
@@ -35,15 +35,20 @@ type Original =
     fn(&[u8], original::jbp::image::types::InterleaveMode, u32, u32, u32, usize) -> Result<Vec<u8>, CodecError>;
 type Product = fn(&[u8], InterleaveMode, u32, u32, u32, usize, &mut [u8]) -> Result<Reordered, Refusal>;
 
-pub fn to_band_sequential(pack: &Pack) -> Times {
-    reordered(pack, rust::to_band_sequential, gezdunar::to_band_sequential)
+/// To band order, as memcpy moves it in R.
+fn runs(pack: &Pack, memcpy: Memcpy) -> Option<Vec<Move>> {
+    (pack.mode == InterleaveMode::R && memcpy == Memcpy::Runs).then(|| moves::to_band_sequential(pack))
 }
 
-pub fn from_band_sequential(pack: &Pack) -> Times {
-    reordered(pack, rust::from_band_sequential, gezdunar::from_band_sequential)
+pub fn to_band_sequential(pack: &Pack, memcpy: Memcpy) -> Times {
+    reordered(pack, rust::to_band_sequential, gezdunar::to_band_sequential, runs(pack, memcpy))
 }
 
-fn reordered(pack: &Pack, original: Original, product: Product) -> Times {
+pub fn from_band_sequential(pack: &Pack, memcpy: Memcpy) -> Times {
+    reordered(pack, rust::from_band_sequential, gezdunar::from_band_sequential, runs(pack, memcpy).map(back))
+}
+
+fn reordered(pack: &Pack, original: Original, product: Product, runs: Option<Vec<Move>>) -> Times {
     let Pack { mode, rows, columns, bands, size } = *pack;
     let length = pack.bytes(bands as usize);
     let data = source(length);
@@ -56,39 +61,17 @@ fn reordered(pack: &Pack, original: Original, product: Product) -> Times {
 
     of_product(&mut out);
     assert!(out.bytes() == of_rust(), "the samples differ");
+    if let Some(moves) = &runs {
+        apply(moves, data.as_bytes(), &mut copied);
+        assert!(out.bytes() == copied.bytes(), "memcpy moves other bytes");
+    }
 
+    let moves = runs.unwrap_or_else(|| at_once(length));
     Times::new(best([
         Side::Call(&mut || release(of_rust())),
         Side::Call(&mut || of_product(&mut out)),
-        Side::Call(&mut || copy(data.as_bytes(), &mut copied)),
+        Side::Call(&mut || apply(&moves, data.as_bytes(), &mut copied)),
     ]))
-}
-
-/// Against memcpy of the same rows, in R.
-fn by_rows(pack: &Pack, product: Product, moves: &[Move]) -> Times {
-    let Pack { mode, rows, columns, bands, size } = *pack;
-    let data = source(pack.bytes(bands as usize));
-    let [mut out, mut copied] = [(); 2].map(|()| Output::new(data.len()));
-    let of_product = |out: &mut Output| {
-        product(black_box(data.as_bytes()), mode, rows, columns, bands, size, out.bytes()).expect("whole samples");
-    };
-
-    of_product(&mut out);
-    apply(moves, data.as_bytes(), &mut copied);
-    assert!(out.bytes() == copied.bytes(), "the samples differ");
-
-    Times::without_original(best([
-        Side::Call(&mut || of_product(&mut out)),
-        Side::Call(&mut || apply(moves, data.as_bytes(), &mut copied)),
-    ]))
-}
-
-pub fn to_band_sequential_by_rows(pack: &Pack) -> Times {
-    by_rows(pack, gezdunar::to_band_sequential, &moves::to_band_sequential(pack))
-}
-
-pub fn from_band_sequential_by_rows(pack: &Pack) -> Times {
-    by_rows(pack, gezdunar::from_band_sequential, &moves::from_band_sequential(pack))
 }
 
 /// The original's form also changes the samples to the host's byte order, and has a lent output.
@@ -113,9 +96,10 @@ pub fn fused_bip_to_bsq(pack: &Pack, list: &[u32]) -> Times {
     let expected = big_endian(mode, size, rust_out.bytes().to_vec());
     assert!(out.bytes() == expected, "the samples differ");
 
+    let moves = at_once(pack.bytes(list.len()));
     Times::new(best([
         Side::Call(&mut || of_rust(&mut rust_out)),
         Side::Call(&mut || of_product(&mut out)),
-        Side::Call(&mut || copy(data.as_bytes(), &mut copied)),
+        Side::Call(&mut || apply(&moves, data.as_bytes(), &mut copied)),
     ]))
 }

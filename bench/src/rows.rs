@@ -3,6 +3,7 @@
 use gezdunar::InterleaveMode as Mode;
 use gezdunar::{Grid, Window};
 
+use crate::moves::Memcpy;
 use crate::original::Block;
 use crate::reorderings::{self, Pack};
 use crate::report::{Target, Times};
@@ -52,7 +53,7 @@ fn decode(grid: Grid, block: Block, bands: Option<Vec<u32>>, what: &str, target:
         name: format!("decode_block {}, {} bits, {what}", grid.imode, grid.nbpp),
         bytes: blocks::decoded_bytes(&grid, block, bands.as_deref()),
         target,
-        work: Box::new(move || blocks::decode(&grid, block, bands.as_deref())),
+        work: Box::new(move || blocks::decode(&grid, block, bands.as_deref(), Memcpy::Runs)),
     }
 }
 
@@ -61,7 +62,7 @@ fn encode(grid: Grid, block: Block, what: &str, target: Target) -> Row {
         name: format!("encode_block {}, {} bits, {what}", grid.imode, grid.nbpp),
         bytes: blocks::encoded_bytes(&grid, block),
         target,
-        work: Box::new(move || blocks::encode(&grid, block)),
+        work: Box::new(move || blocks::encode(&grid, block, Memcpy::Runs)),
     }
 }
 
@@ -115,13 +116,13 @@ fn edge_blocks() -> Vec<Row> {
 /// As many samples as a block has, of four blocks; at 12 bits the rows start inside a byte.
 const WINDOW: Window = Window { row: 200, column: 301, rows: SIDE, columns: SIDE };
 
-fn window(mode: Mode, nbpp: u32, what: &str, target: Target, work: fn(&Grid, Window) -> Times) -> Row {
+fn window(mode: Mode, nbpp: u32, target: Target, memcpy: Memcpy) -> Row {
     let grid = Grid::new(2 * SIDE, 2 * SIDE, 4, nbpp, mode, SIDE, SIDE);
     Row {
-        name: format!("read_window {mode}, {nbpp} bits, 4 bands, across 4 blocks{what}"),
+        name: format!("read_window {mode}, {nbpp} bits, 4 bands, across 4 blocks"),
         bytes: windows::window_bytes(&grid, &WINDOW),
         target,
-        work: Box::new(move || work(&grid, WINDOW)),
+        work: Box::new(move || windows::read(&grid, WINDOW, memcpy)),
     }
 }
 
@@ -129,7 +130,7 @@ fn windows_across() -> Vec<Row> {
     let mut rows = Vec::new();
     for mode in Mode::ALL {
         for nbpp in [8, 12, 16] {
-            rows.push(window(mode, nbpp, "", target(mode, nbpp, 4), windows::read));
+            rows.push(window(mode, nbpp, target(mode, nbpp, 4), Memcpy::Runs));
         }
     }
     rows
@@ -139,47 +140,56 @@ fn pack(mode: Mode, bands: u32, size: u32) -> Pack {
     Pack { mode, rows: SIDE, columns: SIDE, bands, size: size as usize }
 }
 
-/// A reordering of every band. `call` is its name and `what` follows the rest.
-fn reordering([call, what]: [&str; 2], pack: Pack, target: Target, work: fn(&Pack) -> Times) -> Row {
+/// A reordering of every band.
+fn reordering(call: &str, pack: Pack, target: Target, memcpy: Memcpy, work: fn(&Pack, Memcpy) -> Times) -> Row {
     let size = plural(pack.size as u32, "byte");
     Row {
-        name: format!("{call} {}, {size}, {} bands{what}", pack.mode, pack.bands),
+        name: format!("{call} {}, {size}, {} bands", pack.mode, pack.bands),
         bytes: pack.bytes(pack.bands as usize),
         target,
-        work: Box::new(move || work(&pack)),
+        work: Box::new(move || work(&pack, memcpy)),
     }
 }
 
-fn reordered(call: &str, work: fn(&Pack) -> Times) -> Vec<Row> {
+fn reordered(call: &str, work: fn(&Pack, Memcpy) -> Times) -> Vec<Row> {
     let mut rows = Vec::new();
     for mode in [Mode::P, Mode::R] {
         for size in [1, 2, 4] {
             for bands in [4, 100] {
                 let target = target(mode, 8 * size, bands);
-                rows.push(reordering([call, ""], pack(mode, bands, size), target, work));
+                rows.push(reordering(call, pack(mode, bands, size), target, Memcpy::Runs, work));
             }
         }
     }
     rows
 }
 
-/// Some of the rows above once more, with memcpy of the rows of samples as they lie.
-fn by_rows() -> Vec<Row> {
-    let what = ", by rows";
-    let least = || Target { rust: None, memcpy: Some(0.7) };
+/// The rows above whose samples lie in many runs, once more: beside one memcpy of as many bytes.
+fn at_once() -> Vec<Row> {
+    let (none, memcpy) = (|| Target::NONE, Memcpy::AtOnce);
     let mut rows = Vec::new();
+    for nbpp in [8, 16, 32] {
+        let grid = two_blocks(Mode::R, nbpp, 100);
+        let work = Box::new(move || blocks::decode(&grid, BLOCK, None, memcpy));
+        rows.push(Row { work, ..decode(grid, BLOCK, None, "100 bands", none()) });
+        let work = Box::new(move || blocks::encode(&grid, BLOCK, memcpy));
+        rows.push(Row { work, ..encode(grid, BLOCK, "100 bands", none()) });
+    }
     for mode in [Mode::B, Mode::R, Mode::S] {
-        let grid = edge_grid(mode, 8);
-        let work = Box::new(move || blocks::decode_by_rows(&grid, EDGE));
-        rows.push(Row { work, ..decode(grid, EDGE, None, "4 bands, edge block, by rows", least()) });
-        rows.push(window(mode, 8, what, least(), windows::read_by_rows));
-        rows.push(window(mode, 16, what, least(), windows::read_by_rows));
+        for nbpp in [8, 16] {
+            let (grid, what) = (edge_grid(mode, nbpp), "4 bands, edge block");
+            let work = Box::new(move || blocks::decode(&grid, EDGE, None, memcpy));
+            rows.push(Row { work, ..decode(grid, EDGE, None, what, none()) });
+            let work = Box::new(move || blocks::encode(&grid, EDGE, memcpy));
+            rows.push(Row { work, ..encode(grid, EDGE, what, none()) });
+            rows.push(window(mode, nbpp, none(), memcpy));
+        }
     }
     let [to, from] = ["to_band_sequential", "from_band_sequential"];
     for size in [1, 2, 4] {
         let pack = pack(Mode::R, 100, size);
-        rows.push(reordering([to, what], pack, least(), reorderings::to_band_sequential_by_rows));
-        rows.push(reordering([from, what], pack, least(), reorderings::from_band_sequential_by_rows));
+        rows.push(reordering(to, pack, none(), memcpy, reorderings::to_band_sequential));
+        rows.push(reordering(from, pack, none(), memcpy, reorderings::from_band_sequential));
     }
     rows
 }
@@ -237,7 +247,7 @@ pub fn sections() -> Vec<(&'static str, Vec<Row>)> {
         ("Reorderings to band order", reordered("to_band_sequential", reorderings::to_band_sequential)),
         ("Reorderings from band order", reordered("from_band_sequential", reorderings::from_band_sequential)),
         ("Listed bands of pixels", selected()),
-        ("Rows of samples by memcpy a row at a time", by_rows()),
+        ("Many runs beside one memcpy of as many bytes", at_once()),
         ("Mask tables", mask_tables()),
         ("Progress and finish", progress_and_finish()),
     ]

@@ -2,14 +2,14 @@
 
 use std::hint::black_box;
 
-use gezdunar::{Bands, Grid, Window};
+use gezdunar::{Bands, Grid, InterleaveMode, Window};
 use original::jbp::image::nc_decoder::UncompressedBlockDecoder;
 use original::owned_buffer::OwnedBuffer;
 
 use crate::blocks::sizes;
-use crate::buffers::{copy, source, Output};
+use crate::buffers::{source, Output};
 use crate::measure::{best, Side};
-use crate::moves::{apply, crossed, in_answer, in_image, of_block, Move};
+use crate::moves::{apply, at_once, crossed, in_answer, of_block, of_image, Memcpy, Move};
 use crate::original::{self as rust, Block};
 use crate::report::Times;
 
@@ -28,7 +28,7 @@ fn read_blocks(decoder: &UncompressedBlockDecoder, parts: &[(Block, Vec<Move>)],
     }
 }
 
-pub fn read(grid: &Grid, window: Window) -> Times {
+pub fn read(grid: &Grid, window: Window, memcpy: Memcpy) -> Times {
     let image = source(sizes(grid).image_bytes);
     let [mut out, mut rust_out, mut copied] = [(); 3].map(|()| Output::new(window_bytes(grid, &window)));
     let decoder = rust::decoder(grid, image.clone());
@@ -39,26 +39,18 @@ pub fn read(grid: &Grid, window: Window) -> Times {
     read_blocks(&decoder, &parts, &mut rust_out);
     let expected = rust::big_endian(grid.imode, sizes(grid).sample_bytes, rust_out.bytes().to_vec());
     assert!(out.bytes() == expected, "the samples differ: {grid:?}");
+    let is_plain = grid.imode != InterleaveMode::P && grid.nbpp % 8 == 0;
+    let moves = if is_plain && memcpy == Memcpy::Runs {
+        let moves = of_image(grid, &window);
+        apply(&moves, image.as_bytes(), &mut copied);
+        assert!(out.bytes() == copied.bytes(), "memcpy moves other bytes: {grid:?}");
+        moves
+    } else {
+        at_once(window_bytes(grid, &window))
+    };
 
     Times::new(best([
         Side::Call(&mut || read_blocks(&decoder, &parts, &mut rust_out)),
-        Side::Call(&mut || read_window(&image, grid, window, &mut out)),
-        Side::Call(&mut || copy(image.as_bytes(), &mut copied)),
-    ]))
-}
-
-/// Against memcpy of the same rows out of the image, in B, R and S at byte multiples.
-pub fn read_by_rows(grid: &Grid, window: Window) -> Times {
-    let image = source(sizes(grid).image_bytes);
-    let [mut out, mut copied] = [(); 2].map(|()| Output::new(window_bytes(grid, &window)));
-    let blocks = crossed(grid, &window).into_iter();
-    let moves: Vec<Move> = blocks.flat_map(|block| of_block(grid, &window, block, in_image(grid, block))).collect();
-
-    read_window(&image, grid, window, &mut out);
-    apply(&moves, image.as_bytes(), &mut copied);
-    assert!(out.bytes() == copied.bytes(), "the samples differ: {grid:?}");
-
-    Times::without_original(best([
         Side::Call(&mut || read_window(&image, grid, window, &mut out)),
         Side::Call(&mut || apply(&moves, image.as_bytes(), &mut copied)),
     ]))
