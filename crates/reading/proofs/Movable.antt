@@ -17,8 +17,8 @@ use Rattle.grid.proofs.Accepted.{facts, answered}
 use Rattle.grid.proofs.SamplePlaces.{inside, ends, steps}
 use Rattle.grid.proofs.Even.{place-along, rest-in, rest-pos, whole-place, whole-stride, stride-le}
 use Rattle.samples.specs.Samples.{spaced}
+use Rattle.rows.specs.Rows.{Movable}
 use Rattle.frame.specs.Reads.{sampleAt}
-use Rattle.reading.specs.Lines.{Movable}
 
 -- what `read_samples` asks of w bits in s bytes
 pub record SampleSize (w s : ℕ) : Type 0 where

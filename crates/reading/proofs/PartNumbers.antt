@@ -20,11 +20,12 @@ use Rattle.grid.proofs.Even.{place-even}
 use Rattle.samples.specs.Samples.{spaced}
 use Rattle.samples.specs.Patched.{patched}
 use Rattle.samples.proofs.Patched.{patched-ext}
+use Rattle.rows.specs.Rows.{Movable}
 use Rattle.frame.proofs.WindowLaws.{both-yes}
 use Rattle.frame.specs.Reads.{sampleAt}
 use Rattle.reading.specs.declared.part.Part.{Part}
 use Rattle.reading.specs.Parts.{bandOf, rowOf, columnOf, partSample, inPart, Readable}
-use Rattle.reading.specs.Lines.{Movable, lineSample, Lines, oneRow}
+use Rattle.reading.specs.Lines.{lineSample, Lines, oneRow}
 use Rattle.reading.proofs.Rect.{inside, within-rect, rect-part, lineStart, number-of, Digits, digits-of}
 use Rattle.reading.proofs.Movable.{movable}
 
@@ -50,6 +51,16 @@ unfolding spaced lineSample
 line-number g image start by p bs rows columns k i j b hy hx e =
     let d = line-at rows columns (p .«to_row») (p .«to_column») k i j hy hx in
     rw (d .band, d .down, d .across, e)
+
+-- the same, i lines below a line
+pub rows-number : (g : Grid) (image : List ℕ) (start : ℕ) (by : Strides) (p : Part) (bs : Bands) (rows columns k line i j b : ℕ)
+    → p .«to_row» + (line + i) < rows → p .«to_column» + j < columns → b ≡ bandAt bs k
+    → spaced image (start + b * by .band + line * by .row + i * by .row) (by .column) (g .nbpp) j
+    ≡ lineSample g image start by p bs rows columns (lineStart rows columns (p .«to_row») (p .«to_column») k line + i * columns + j)
+rows-number g image start by p bs rows columns k line i j b hy hx e =
+    ap (λ (x : ℕ). spaced image x (by .column) (g .nbpp) j) (omega arith)
+    ∙ line-number g image start by p bs rows columns k (line + i) j b hy hx e
+    ∙ ap (lineSample g image start by p bs rows columns) (omega arith)
 
 pub part-number : (g : Grid) (image : List ℕ) (p : Part) (bs : Bands) (rows columns k i j b : ℕ)
     → p .«to_row» + i < rows → p .«to_column» + j < columns → b ≡ bandAt bs k

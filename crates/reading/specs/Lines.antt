@@ -1,6 +1,6 @@
 -- Parts of blocks whose samples stand evenly, told by the strides.
 -- Assumes nothing.
-use Prim.Native.Nat.{ℕ, _+_, _-_, _*_, _%_, _^_, _≤_, _<_}
+use Prim.Native.Nat.{ℕ, _+_, _-_, _*_, _≤_, _<_}
 use mathlib.Core.Path.{_≡_}
 use mathlib.Core.Bool.{true}
 use mathlib.Core.List.{List}
@@ -10,14 +10,9 @@ use Rattle.grid.specs.declared.Strides.{Strides}
 use Rattle.grid.specs.Check.{Accepted}
 use Rattle.grid.specs.Sizes.{sampleBytes}
 use Rattle.grid.specs.Bands.{Bands, bandCount, bandAt, q8}
+use Rattle.rows.specs.Rows.{Movable}
 use Rattle.reading.specs.declared.part.Part.{Part}
 use Rattle.reading.specs.Parts.{bandOf, rowOf, columnOf}
-
--- samples of w bits that can be moved out of n bytes: `count` of them, one every `step` bits from bit `at` on, to s bytes each
-pub record Movable (n at step w s count : ℕ) : Type 0 where
-  pub whole : w ≡ 8 * s → (at % 8 ≡ 0) × (step % 8 ≡ 0)
-  pub inside : at + count * step + w ≤ 8 * n + step
-  pub fits : at + count * step + w < 2 ^ 63
 
 -- the number of sample n of the answer, where it is in the part and sample (0, r, c) of the part's block starts at bit `start`
 unfoldable pub lineSample : Grid → List ℕ → ℕ → Strides → Part → Bands → ℕ → ℕ → ℕ → ℕ

@@ -10,14 +10,24 @@ ghost use Rattle.samples.specs.Patched.{patched};
 ghost use Rattle.reading.specs.Parts.{Readable, partSample, inPart};
 ghost use Rattle.reading.specs.Lines.{Lines, lineSample, oneRow};
 use crate::part::Part;
+use crate::pixels::by_pixels;
+use crate::pixels::read_listed;
+use bits::least;
 use grid::Grid;
 use grid::Strides;
 use grid::bands::band_at;
 use grid::bands::band_count;
-use samples::read::read_samples;
+use rows::read::read_rows;
 
-// The part's rows, where its first sample of band 0 starts at bit `start`: row by row, in a row band by band, since a row's
-// bands share their cache lines where bands are interleaved.
+// How many rows of a band are moved together: 8 where the samples of a row stand side by side. Where bands stand between them it is one, since a row's bands
+// share their cache lines there.
+fn rows_together(step: usize, width: usize) -> usize
+    ensures { λ n. ⌜ 0 < n ⌝ }
+{
+    if step == width { 8 } else { 1 }
+}
+
+// The part's rows, where its first sample of band 0 starts at bit `start`: a few rows together, of these band by band.
 fn read_lines(
     image: &[u8],
     grid: Grid,
@@ -39,13 +49,55 @@ fn read_lines(
     let to = part.to_row * columns + part.to_column;
     let count = band_count(grid.bands, all, bands);
     let lines = part.rows;
-    for line in 0..lines {
+    let most = rows_together(by.column, width);
+    let row_bytes = columns * size;
+    let mut line = 0;
+    while line < lines {
+        let n = least(most, lines - line);
         for k in 0..count {
             let b = band_at(grid.bands, all, bands, k);
             let at = start + b * by.band + line * by.row;
             let into = (k * plane + to + line * columns) * size;
-            read_samples(image, at, by.column, width, size, part.columns, out, into);
+            read_rows(
+                image,
+                at,
+                by.row,
+                by.column,
+                width,
+                size,
+                part.columns,
+                out,
+                into,
+                row_bytes,
+                n,
+            );
         }
+        line += n;
+    }
+}
+
+// The same as `read_lines`, pixel by pixel where that keeps to the cache.
+fn read_box(
+    image: &[u8],
+    grid: Grid,
+    start: usize,
+    by: Strides,
+    part: Part,
+    all: bool,
+    bands: &[u32],
+    rows: usize,
+    columns: usize,
+    out: &mut [u8],
+)
+    requires { ⌜ Lines grid (length (now image)) start by part (bandsOf all (now bands)) rows columns (length (now out)) ⌝ }
+    ensures { λ _. ⌜ now (out .exit) ≡ patched (sampleBytes grid) (lineSample grid (now (image .entry)) start by part (bandsOf all (now (bands .entry))) rows columns) (inPart part (bandCount (grid .bands) (bandsOf all (now (bands .entry)))) rows columns) (now (out .entry)) ⌝ }
+{
+    let width = grid.nbpp as usize;
+    let size = grid.sample_bytes();
+    if by_pixels(by, width, size, all, bands) {
+        read_listed(image, grid, start, by, part, bands, rows, columns, out)
+    } else {
+        read_lines(image, grid, start, by, part, all, bands, rows, columns, out)
     }
 }
 
@@ -88,8 +140,8 @@ pub fn read_even(
     if part.columns == columns && by.column == width && by.row == part.columns * width {
         let one = one_row(part, columns);
         let plane = rows * columns;
-        read_lines(image, grid, start, by, one, all, bands, 1, plane, out)
+        read_box(image, grid, start, by, one, all, bands, 1, plane, out)
     } else {
-        read_lines(image, grid, start, by, part, all, bands, rows, columns, out)
+        read_box(image, grid, start, by, part, all, bands, rows, columns, out)
     }
 }

@@ -12,6 +12,7 @@ use grid::bands::bands_below;
 mod even;
 mod packed;
 pub mod part;
+mod pixels;
 pub mod whole;
 
 use crate::part::Part;

@@ -8,6 +8,7 @@ use native.Mathlib.Nat.{mul-le-mul-right}
 use denote.Ref.{now}
 use lib.ListN.{length}
 use borrow.Author.Tests.{eqb-true}
+use Rattle.grid.specs.Sizes.{sampleBytes}
 use Rattle.grid.proofs.Arith.{prod-le}
 use Rattle.grid.proofs.Accepted.{facts, columns-le}
 use Rattle.reading.proofs.Rect.{Planes, planes}
@@ -19,7 +20,7 @@ use Rattle.reading.proofs.even.read_even.Tie as tie
 in-out : (s : tie.Start) → length (now (s .args .out)) < 2 ^ 64
 in-out s = omega arith
 
-in-planes : (s : tie.Start) → Planes (s .args .rows) (s .args .columns) (s .args .part .«to_row») (s .args .part .«to_column»)
+in-planes : (s : tie.Start) → Planes (s .args .rows) (s .args .columns) (s .args .part .«to_row») (s .args .part .«to_column») (sampleBytes (s .args .grid))
 in-planes s =
     let p = s .pre .1 .0 in
     planes _ _ _ _ _ _ _ (in-out s) (s .pre .1 .1) (sample-size _ (p .accepted) .some) (omega arith) (omega arith) (p .room)
@@ -68,13 +69,13 @@ one-row-requires c κs = let s = c .before .before .before .before .before .befo
 mul-plane : tie.Need-mul-plane
 mul-plane c = record { fits = in-planes (c .before .before .before .before .before .before .before .before .before .before .before .before .before .before) .band }
 
-read-lines-requires : tie.Need-read-lines-requires
-read-lines-requires c κs =
+read-box-requires : tie.Need-read-box-requires
+read-box-requires c κs =
     let s = c .before .before .before .before .before .before .before .before .before .before .before .before .before .before .before in
     rw (c .before .one-row .ensures) (follow-lines _ _ _ _ _ _ _ _ _ (even (c .before .before .before .before .before .before .before .before .before)) (s .pre .1 .0) (s .pre .1 .1) (follow (c .before .before)))
 
-read-lines-requires-2 : tie.Need-read-lines-requires-2
-read-lines-requires-2 c κs =
+read-box-requires-2 : tie.Need-read-box-requires-2
+read-box-requires-2 c κs =
     let s = c .before .before .before .before .before .before .before .before .before in
     even-lines _ _ _ _ _ _ _ _ _ (even (c .before .before .before)) (s .pre .1 .0) (s .pre .1 .1)
 
@@ -84,7 +85,7 @@ same-length c = search needs
 returns : tie.Need-returns
 returns c =
     let s = c .before .before .before .before .before .before .before .before .before .before .before .before .before .before .before .before .before .before in
-    follow-done _ _ _ _ _ _ _ _ _ _ _ (even (c .before .before .before .before .before .before .before .before .before .before .before .before)) (s .pre .1 .0) (follow (c .before .before .before .before .before)) (rw (c .before .before .before .before .one-row .ensures) at (c .before .before .read-lines .ensures))
+    follow-done _ _ _ _ _ _ _ _ _ _ _ (even (c .before .before .before .before .before .before .before .before .before .before .before .before)) (s .pre .1 .0) (follow (c .before .before .before .before .before)) (rw (c .before .before .before .before .one-row .ensures) at (c .before .before .read-box .ensures))
 
 same-length-2 : tie.Need-same-length-2
 same-length-2 c = search needs
@@ -92,7 +93,7 @@ same-length-2 c = search needs
 returns-2 : tie.Need-returns-2
 returns-2 c =
     let s = c .before .before .before .before .before .before .before .before .before .before .before .before in
-    even-done _ _ _ _ _ _ _ _ _ _ _ {zs = c .before .before .read-lines2 .last .1 .1 .1 .1 .1 .1 .1 .1 .1 .0} (even (c .before .before .before .before .before .before)) (s .pre .1 .0) (c .before .before .read-lines2 .ensures)
+    even-done _ _ _ _ _ _ _ _ _ _ _ {zs = c .before .before .read-box2 .last .1 .1 .1 .1 .1 .1 .1 .1 .1 .0} (even (c .before .before .before .before .before .before)) (s .pre .1 .0) (c .before .before .read-box2 .ensures)
 
 pub read-even-spec : {M : Type 1} → statement M
 read-even-spec =
@@ -104,8 +105,8 @@ read-even-spec =
     mul-if3
     one-row-requires
     mul-plane
-    read-lines-requires
-    read-lines-requires-2
+    read-box-requires
+    read-box-requires-2
     same-length
     returns
     same-length-2

@@ -14,8 +14,8 @@ use Rattle.grid.specs.declared.Strides.{Strides}
 use Rattle.grid.proofs.Accepted.{facts, columns-le}
 use Rattle.samples.specs.Samples.{values, spaced}
 use Rattle.samples.proofs.Moves.{values-none, values-run}
+use Rattle.rows.specs.Rows.{Movable}
 use Rattle.frame.specs.Reads.{sampleAt}
-use Rattle.reading.specs.Lines.{Movable}
 use Rattle.reading.proofs.Movable.{sample-size, rest-some, run-movable, run-number, InLine, in-line}
 use Rattle.reading.proofs.packed.read_line.Statement.{statement}
 use Rattle.reading.proofs.packed.read_line.Tie as tie

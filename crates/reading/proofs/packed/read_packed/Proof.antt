@@ -13,7 +13,7 @@ use Rattle.grid.proofs.Listed.{band-lt}
 use Rattle.samples.specs.Patched.{patched}
 use Rattle.frame.specs.Reads.{sampleAt}
 use Rattle.reading.specs.Parts.{partSample}
-use Rattle.reading.proofs.Rect.{inRect, lineStart, Into, into, Planes, planes, no-rows, no-bands, band-turn, row-turn, rows-done}
+use Rattle.reading.proofs.Rect.{inRect, lineStart, Into, into, Planes, planes, no-rows, no-bands, band-line, row-turn, rows-done}
 use Rattle.reading.proofs.PartNumbers.{part-number}
 use Rattle.reading.proofs.Movable.{sample-size}
 use Rattle.reading.proofs.packed.read_packed.Statement.{statement}
@@ -38,18 +38,18 @@ abbrev μ-loop : tie.MeasureT-loop
 in-out : (s : tie.Start Inv-loop2 μ-loop2 Inv-loop μ-loop) → length (now (s .args .out)) < 2 ^ 64
 in-out s = omega arith
 
-in-planes : (s : tie.Start Inv-loop2 μ-loop2 Inv-loop μ-loop) → Planes (s .args .rows) (s .args .columns) (s .args .part .«to_row») (s .args .part .«to_column»)
+in-planes : (s : tie.Start Inv-loop2 μ-loop2 Inv-loop μ-loop) → Planes (s .args .rows) (s .args .columns) (s .args .part .«to_row») (s .args .part .«to_column») (sampleBytes (s .args .grid))
 in-planes s = let p = s .pre .0 in planes _ _ _ _ _ _ _ (in-out s) (s .pre .1) (sample-size _ (p .accepted) .some) (omega arith) (omega arith) (p .room)
 
 -- where a turn writes
 in-into : (c : tie.In-loop2 Inv-loop2 μ-loop2 Inv-loop μ-loop)
     → let a = c .before .before .before .before .before .before .before .before .before .before .before .args in
-    Into (a .rows) (a .columns) (a .part .«to_row») (a .part .«to_column») (a .part .columns) (c .before .before .before .before .before .before .before .sample-bytes .result) (c .before .loop2 .k) (c .before .before .before .loop .line) (length (c .before .loop2 .out))
+    Into (a .rows) (a .columns) (a .part .«to_row») (a .part .«to_column») (a .part .columns) (c .before .before .before .before .before .before .before .sample-bytes .result) (c .before .loop2 .k) (c .before .before .before .loop .line) 1 (length (c .before .loop2 .out))
 in-into c =
     let s = c .before .before .before .before .before .before .before .before .before .before .before in
     let p = s .pre .0 in
     rw (c .before .before .before .before .before .before .before .sample-bytes .ensures, c .before .loop2 .inv .1, c .before .before .before .loop .inv .1)
-    (into _ _ _ _ _ _ _ _ _ _ _ (in-out s) (c .loop2-test .taken) (c .before .before .loop-test .taken) (p .to-rows) (p .to-columns) (sample-size _ (p .accepted) .some)
+    (into _ _ _ _ _ _ _ _ _ _ 1 _ (in-out s) (c .loop2-test .taken) (omega arith) (omega (arith, c .before .before .loop-test .taken)) (p .to-rows) (p .to-columns) (sample-size _ (p .accepted) .some)
     (rw (c .before .before .before .before .band-count .ensures) (p .room)))
 
 -- and from which sample it reads
@@ -117,7 +117,7 @@ read-line-requires c κs =
     let z = c .before .before .before .before .before .before .before .before .before .before .sample-bytes in
     let start : ℕ = lineStart (a .rows) (a .columns) (a .part .«to_row») (a .part .«to_column») (c .before .before .before .before .loop2 .k) (c .before .before .before .before .before .before .loop .line) in
     let room : start * z .result + a .part .columns * sampleBytes (a .grid) ≤ length (c .before .before .before .before .loop2 .out)
-    = subst (λ (x : ℕ). start * z .result + a .part .columns * x ≤ length (c .before .before .before .before .loop2 .out)) (z .ensures) (in-into (c .before .before .before) .room) in
+    = subst (λ (x : ℕ). start * z .result + a .part .columns * x ≤ length (c .before .before .before .before .loop2 .out)) (z .ensures) (omega (arith, in-into (c .before .before .before) .room)) in
     (p .accepted, (here (c .before .before), (p .in-columns, p .reached, room)))
 
 add-k : tie.Need-add-k Inv-loop2 μ-loop2 Inv-loop μ-loop
@@ -139,8 +139,8 @@ loop2-again c =
     let y : a .part .«to_row» + row .loop .line < a .rows = omega (arith, p .to-rows, h .before .loop-test .taken) in (
       omega (arith, c .before .before .before .before .before .before .loop2-test .taken),
       omega (arith, call .kept, h .loop2 .inv .1),
-      band-turn _ (partSample (a .grid) (now (a .image)) (a .part) (bandsOf (a .all) (now (a .bands))) (a .rows) (a .columns))
-          (λ j. sampleAt (a .grid) (now (a .image)) (a .part .row) (a .part .column) (c .before .before .before .before .before .band-at .result) (a .part .r + row .loop .line) (a .part .c + j)) _ _ _ _ _ _ _ _ z y (p .to-columns) (rw (h .loop2 .inv .1) at (in-into (c .before .before .before .before .before .before) .room)) (h .loop2 .inv .2) e (call .ensures)
+      band-line _ (partSample (a .grid) (now (a .image)) (a .part) (bandsOf (a .all) (now (a .bands))) (a .rows) (a .columns))
+          (λ j. sampleAt (a .grid) (now (a .image)) (a .part .row) (a .part .column) (c .before .before .before .before .before .band-at .result) (a .part .r + row .loop .line) (a .part .c + j)) _ _ _ _ _ _ _ _ z y (p .to-columns) (omega arith) (omega (arith, h .loop2 .inv .1, in-into (c .before .before .before .before .before .before) .room)) (h .loop2 .inv .2) e (call .ensures)
           (λ j l. part-number (a .grid) (now (a .image)) (a .part) (bandsOf (a .all) (now (a .bands))) (a .rows) (a .columns) (h .loop2 .k) (row .loop .line) j _ y (omega (arith, p .to-columns)) (c .before .before .before .before .before .band-at .ensures)),
     )
 
@@ -154,7 +154,7 @@ loop-again : tie.Need-loop-again Inv-loop2 μ-loop2 Inv-loop μ-loop
 loop-again c =
     let h = c .before .before .before in
     let e : c .before .loop2 .k ≡ h .before .band-count .result = omega arith in
-    (omega arith, omega arith, row-turn _ _ _ _ _ _ _ _ _ _ (h .loop .inv .2) (rw e at (c .before .loop2 .inv .2)))
+    (omega arith, omega arith, row-turn _ _ _ _ _ _ 1 _ _ _ _ (h .loop .inv .2) (rw e at (c .before .loop2 .inv .2)))
 
 same-length : tie.Need-same-length Inv-loop2 μ-loop2 Inv-loop μ-loop
 same-length c = omega arith
