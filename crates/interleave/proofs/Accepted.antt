@@ -6,10 +6,11 @@ use mathlib.Core.Bool.{true}
 use native.Mathlib.Omega.{arith}
 use lib.Dec.{lit<}
 use borrow.Author.Tests.{leb-true, eqb-true}
+use Rattle.grid.specs.Questions.{pick}
 use Rattle.grid.specs.Bands.{Bands, bandCount, q8}
 use Rattle.grid.proofs.Questions.{ask-inv, within-facts}
 use Rattle.grid.proofs.Listed.{band-lt}
-use Rattle.interleave.specs.Interleave.{reorderNumber}
+use Rattle.interleave.specs.Interleave.{everyBand, reorderNumber}
 
 -- data of n bytes and an output of m
 pub record Accepted (bs : Bands) (rows columns bands s n m : ℕ) : Type 0 where
@@ -41,3 +42,8 @@ accepted bs rows columns bands s n m e =
 -- a block that bands are asked of has bands
 pub has-bands : (bands : ℕ) (bs : Bands) → q8 bands bs ≡ true → 0 < bandCount bands bs → 0 < bands
 has-bands bands bs e h = omega (arith, band-lt bands bs e 0 h)
+
+-- all bands fit into the output
+pub all-room : {rows columns bands s n m : ℕ} → Accepted everyBand rows columns bands s n m → bands * rows * columns * s ≤ m
+unfolding bandCount pick
+all-room a = a .room

@@ -4,3 +4,4 @@ pub mod Moved
 pub mod Accepted
 pub mod Answers
 pub mod Laws
+pub mod Turns

@@ -7,13 +7,15 @@ use grid::InterleaveMode;
 use grid::bands::band_count;
 
 mod check;
-mod planes;
+mod gather;
+mod scatter;
+mod steps;
 
 use crate::check::Shape;
 use crate::check::output_bytes;
 use crate::check::reorder_number;
-use crate::planes::gather_planes;
-use crate::planes::scatter_planes;
+use crate::gather::gather_planes;
+use crate::scatter::scatter_planes;
 use samples::bytes::copy;
 
 // What a reordering answers: the number, the bands of the output and its bytes; zeros beside a refusal.

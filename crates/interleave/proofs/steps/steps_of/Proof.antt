@@ -1,11 +1,11 @@
--- `planes::steps_of` meets its contract.
+-- `steps::steps_of` meets its contract.
 -- Assumes nothing.
 use borrow.Author.Needs.{needs}
 use mathlib.Core.Logic.{⊎-elim}
 use native.Mathlib.Omega.{arith}
 use Rattle.interleave.proofs.Coordinates.{Parts, parts, other-mode}
-use Rattle.interleave.proofs.planes.steps_of.Statement.{statement}
-use Rattle.interleave.proofs.planes.steps_of.Tie as tie
+use Rattle.interleave.proofs.steps.steps_of.Statement.{statement}
+use Rattle.interleave.proofs.steps.steps_of.Tie as tie
 
 bounds : (c : tie.Start) → Parts (c .args .bands) (c .args .rows) (c .args .columns) (c .args .size)
 bounds c = parts (c .args .bands) (c .args .rows) (c .args .columns) (c .args .size) (omega arith) (omega arith) (omega arith)
