@@ -12,7 +12,6 @@ ghost use Rattle.interleave.specs.Interleave.{sourceOf, reorderNumber};
 use crate::check::Shape;
 use crate::check::is_empty;
 use crate::steps::has_long_pixels;
-use crate::steps::rows_together;
 use crate::steps::start;
 use crate::steps::steps_of;
 use bits::least;
@@ -21,6 +20,7 @@ use grid::bands::band_at;
 use grid::bands::band_count;
 use rows::listed::gather_listed;
 use rows::read::read_rows;
+use rows::rows_together;
 
 // Some rows of a band together, and so of each band asked for.
 fn gather_by_rows(
@@ -46,7 +46,7 @@ fn gather_by_rows(
     let step = source.column * 8;
     let width = size * 8;
     let line = target.row;
-    let most = rows_together(source.column, size);
+    let most = rows_together(source.column, source.row, source.band, size, count, rows);
     let mut r = 0;
     while r < rows {
         let n = least(most, rows - r);

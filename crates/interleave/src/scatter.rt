@@ -11,12 +11,12 @@ ghost use Rattle.interleave.specs.Interleave.{everyBand, sourceOf, reord
 use crate::check::Shape;
 use crate::check::is_empty;
 use crate::steps::has_long_pixels;
-use crate::steps::rows_together;
 use crate::steps::start;
 use crate::steps::steps_of;
 use bits::least;
 use grid::InterleaveMode;
 use rows::read::gather_rows;
+use rows::rows_together;
 use rows::write::write_rows;
 
 // Some rows of a band together, and so of each band.
@@ -35,7 +35,7 @@ fn scatter_by_rows(data: &[u8], mode: InterleaveMode, shape: Shape, out: &mut [u
     let row = target.row * 8;
     let step = target.column * 8;
     let width = size * 8;
-    let most = rows_together(target.column, size);
+    let most = rows_together(target.column, target.row, target.band, size, bands, rows);
     let mut r = 0;
     while r < rows {
         let n = least(most, rows - r);

@@ -54,13 +54,6 @@ pub fn start(by: Steps, b: usize, r: usize) -> usize
     b * by.band + r * by.row
 }
 
-// How many rows of a band are moved together: 8 where the samples of a row stand side by side, otherwise 1, as the bands of a row share their cache lines.
-pub fn rows_together(column: usize, size: usize) -> usize
-    ensures { λ n. ⌜ 0 < n ⌝ }
-{
-    if column == size { 8 } else { 1 }
-}
-
 // Do bands stand side by side, in pixels longer than a line of the cache?
 pub fn has_long_pixels(mode: InterleaveMode, shape: Shape) -> bool
     requires { ⌜ shape .bands * shape .size < 2 ^ 64 ⌝ }

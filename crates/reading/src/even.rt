@@ -18,16 +18,9 @@ use grid::Strides;
 use grid::bands::band_at;
 use grid::bands::band_count;
 use rows::read::read_rows;
+use rows::rows_together;
 
-// How many rows of a band are moved together: 8 where the samples of a row stand side by side. Where bands stand between them it is one, since a row's bands
-// share their cache lines there.
-fn rows_together(step: usize, width: usize) -> usize
-    ensures { λ n. ⌜ 0 < n ⌝ }
-{
-    if step == width { 8 } else { 1 }
-}
-
-// The part's rows, where its first sample of band 0 starts at bit `start`: a few rows together, of these band by band.
+// The part's rows, where its first sample of band 0 starts at bit `start`: some rows together, of these band by band.
 fn read_lines(
     image: &[u8],
     grid: Grid,
@@ -49,7 +42,7 @@ fn read_lines(
     let to = part.to_row * columns + part.to_column;
     let count = band_count(grid.bands, all, bands);
     let lines = part.rows;
-    let most = rows_together(by.column, width);
+    let most = rows_together(by.column, by.row, by.band, width, count, lines);
     let row_bytes = columns * size;
     let mut line = 0;
     while line < lines {

@@ -1,1 +1,2 @@
 -- The laws of `rows`.
+pub mod Whole

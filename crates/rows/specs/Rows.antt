@@ -3,7 +3,7 @@
 use Prim.Native.Nat.{ℕ, _+_, _*_, _%_, _^_, _≤_, _<_}
 use mathlib.Core.Path.{_≡_}
 use mathlib.Core.List.{List}
-use lib.ListN.{length, getD}
+use lib.ListN.{length, getD, take, drop}
 use Rattle.bits.specs.Bits.{beAt}
 use Rattle.bits.specs.Over.{over}
 use Rattle.bits.specs.Turns.{iter}
@@ -14,6 +14,10 @@ pub record Movable (n at step w s count : ℕ) : Type 0 where
   pub whole : w ≡ 8 * s → (at % 8 ≡ 0) × (step % 8 ≡ 0)
   pub inside : at + count * step + w ≤ 8 * n + step
   pub fits : at + count * step + w < 2 ^ 63
+
+-- row i of n bytes copied, from index at + i * row of xs on to index to + i * line on
+abbrev pub rowCopied : List ℕ → (at row n to line : ℕ) → ℕ → List ℕ → List ℕ
+rowCopied xs at row n to line i ys = over ys (to + i * line) (take n (drop (at + i * row) xs))
 
 -- row i read: `count` samples of w bits, one every `step` bits from bit at + i * row of xs on, go in s bytes each to index to + i * line on
 abbrev pub rowRead : List ℕ → (at row step w s count to line : ℕ) → ℕ → List ℕ → List ℕ

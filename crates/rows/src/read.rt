@@ -4,6 +4,7 @@ ghost use Prim.Native.Nat.{ℕ, _+_, _*_, _≤_, _<_};
 ghost use lib.ListN.{length};
 ghost use Rattle.bits.specs.Turns.{iter};
 ghost use Rattle.rows.specs.Rows.{Movable, rowRead};
+use crate::copy::copy_rows;
 use samples::read::gather_any;
 use samples::read::read_samples;
 
@@ -71,9 +72,15 @@ pub fn read_rows(
 )
     requires { ⌜ (width ≤ 8 * size) × (size ≤ 8) × ((width < 8 * size → width ≤ 57)) ⌝ }
     requires { ⌜ ((i : ℕ) → i < rows → Movable (length (now src)) (at + i * row) step width size count) ⌝ }
-    requires { ⌜ to + rows * line + count * size ≤ length (now out) + line ⌝ }
+    requires { ⌜ (0 < rows) × (to + rows * line + count * size ≤ length (now out) + line) ⌝ }
     ensures { λ _. ⌜ now (out .exit) ≡ iter rows (rowRead (now (src .entry)) at row step width size count to line) (now (out .entry)) ⌝ }
 {
+    if step == width {
+        if width == 8 * size {
+            copy_rows(src, at / 8, row / 8, count * size, out, to, line, rows);
+            return;
+        }
+    }
     for i in 0..rows {
         read_samples(
             src,

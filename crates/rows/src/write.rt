@@ -4,6 +4,7 @@ ghost use Prim.Native.Nat.{ℕ, _+_, _*_, _≤_, _<_};
 ghost use lib.ListN.{length};
 ghost use Rattle.bits.specs.Turns.{iter};
 ghost use Rattle.rows.specs.Rows.{Movable, rowWritten};
+use crate::copy::copy_rows;
 use samples::write::write_samples;
 
 // `rows` rows of samples as `write_samples` writes them, which start `line` bytes apart in `dat` and `row` bits apart in `img`.
@@ -20,10 +21,16 @@ pub fn write_rows(
     count: usize,
     rows: usize,
 )
-    requires { ⌜ (width ≤ 8 * size) × (size ≤ 8) × (from + rows * line + count * size ≤ length (now dat) + line) ⌝ }
+    requires { ⌜ (width ≤ 8 * size) × (size ≤ 8) × (0 < rows) × (from + rows * line + count * size ≤ length (now dat) + line) ⌝ }
     requires { ⌜ ((i : ℕ) → i < rows → Movable (length (now img)) (at + i * row) step width size count) ⌝ }
     ensures { λ _. ⌜ now (img .exit) ≡ iter rows (rowWritten (now (dat .entry)) from line size width at row step count) (now (img .entry)) ⌝ }
 {
+    if step == width {
+        if width == 8 * size {
+            copy_rows(dat, from, line, count * size, img, at / 8, row / 8, rows);
+            return;
+        }
+    }
     for i in 0..rows {
         write_samples(
             dat,

@@ -11,7 +11,9 @@ ghost use Rattle.frame.specs.Writes.{putBlock};
 ghost use Rattle.writing.specs.Writable.{Writable};
 use bits::least;
 use grid::Grid;
+use grid::Strides;
 use rows::read::gather_rows;
+use rows::rows_together;
 use rows::write::write_rows;
 
 // How many samples of a band stand evenly one after the other: those of a row, or all where each row starts where the row before it ends.
@@ -43,13 +45,26 @@ fn piece_samples(line: usize, step: usize, width: usize) -> usize
     }
 }
 
-// How many lines are put together, where n samples of a line are put at once and so many samples of the band are left: up to 8 whole lines, so that the data
-// is read in longer runs.
-fn lines_together(n: usize, line: usize, left: usize) -> usize
+// How many lines are put together, where n samples of a line are put at once and so many samples of the band are left: whole lines only.
+fn lines_together(
+    by: Strides,
+    width: usize,
+    bands: u32,
+    n: usize,
+    line: usize,
+    left: usize,
+) -> usize
     requires { ⌜ (0 < line) × (0 < n) × (n ≤ left) ⌝ }
     ensures { λ m. ⌜ (0 < m) × (m * n ≤ left) × ((m ≡ 1) ⊎ (n ≡ line)) ⌝ }
 {
-    if n == line { least(8, left / line) } else { 1 }
+    if n != line {
+        return 1;
+    }
+    let most = rows_together(by.column, by.row, by.band, width, bands as usize, left);
+    if most == 1 {
+        return 1;
+    }
+    least(most, left / line)
 }
 
 // Puts the samples of a block whose samples stand evenly, some lines or a piece of one at a time and there band by band.
@@ -68,7 +83,7 @@ pub fn put_even(image: &mut [u8], grid: Grid, row: usize, column: usize, data: &
     let mut next = 0;
     while next < plane {
         let n = least(most, line - next % line);
-        let m = lines_together(n, line, plane - next);
+        let m = lines_together(by, width, grid.bands, n, line, plane - next);
         let at = first + next / line * by.row + next % line * by.column;
         for b in 0..grid.bands as usize {
             let from = (b * plane + next) * size;

@@ -183,12 +183,15 @@ read-rows-requires c κs =
       (omega arith, h .size-high, λ l. omega arith),
       (
         rows-movable (entry z .args .mode) _ _ _ _ _ _ _ (o .before .steps-of .ensures) hh _ _ _ _ _ (in-block b) (g .1) (h .small) (omega (arith, h .full)) (t .before .start .ensures),
-        omega (
-          arith,
-          room z,
-          i .before .loop2 .inv .1,
-          i .before .before .before .before .loop .inv .1,
-          rows-end S _ _ _ _ _ _ _ e hh _ _ _ _ (i .loop2-test .taken) (g .0) (g .1) (omega (arith, e .2)) (t .start2 .ensures),
+        (
+          g .0,
+          omega (
+            arith,
+            room z,
+            i .before .loop2 .inv .1,
+            i .before .before .before .before .loop .inv .1,
+            rows-end S _ _ _ _ _ _ _ e hh _ _ _ _ (i .loop2-test .taken) (g .0) (g .1) (omega (arith, e .2)) (t .start2 .ensures),
+          ),
         ),
       ),
     )

@@ -145,6 +145,7 @@ write-rows-requires c κs =
       (
         omega arith,
         h .size-high,
+        g .0,
         omega (arith, h .full, rows-end S _ _ _ _ _ _ _ e hh _ _ _ _ (i .loop2-test .taken) (g .0) (g .1) (omega (arith, e .2)) (t .before .start .ensures)),
       ),
       rows-movable (entry o .args .mode) _ _ _ _ _ _ _ (o .steps-of2 .ensures) hh _ _ _ _ _ (i .loop2-test .taken) (g .1) (h .small)

@@ -93,7 +93,7 @@ band-count-requires : tie.Need-band-count-requires Inv-loop2 μ-loop2 Inv-loop �
 band-count-requires c κs = tt
 
 rows-together-requires : tie.Need-rows-together-requires Inv-loop2 μ-loop2 Inv-loop μ-loop
-rows-together-requires c κs = tt
+rows-together-requires c κs = c .before .before .before .before .before .before .before .before .pre .some-rows
 
 mul-row-bytes : tie.Need-mul-row-bytes Inv-loop2 μ-loop2 Inv-loop μ-loop
 mul-row-bytes c = record { fits = rw (c .before .before .before .before .sample-bytes .ensures) (in-planes (c .before .before .before .before .before .before .before .before .before) .line) }
@@ -144,7 +144,7 @@ read-rows-requires : tie.Need-read-rows-requires Inv-loop2 μ-loop2 Inv-loop μ-
 read-rows-requires c κs =
     let z = sample-size _ (c .before .before .before .before .before .before .before .before .before .before .before .before .before .before .before .before .before .before .pre .accepted) in
     let e = c .before .before .before .before .before .before .before .before .before .before .before .before .before .sample-bytes .ensures in
-    (rw e (z .bits-le, z .bytes-le, z .narrow), (rw e (in-move (c .before .before .before)), in-into (c .before .before .before .before) .room))
+    (rw e (z .bits-le, z .bytes-le, z .narrow), (rw e (in-move (c .before .before .before)), (taken (c .before .before .before .before .before .before) .some, in-into (c .before .before .before .before) .room)))
 
 add-k : tie.Need-add-k Inv-loop2 μ-loop2 Inv-loop μ-loop
 add-k c = omega arith

@@ -1,15 +1,16 @@
 -- `writing::even::put_even` meets its contract: the samples before sample `next` of every band are put, and in the inner loop the first b bands of the piece from there on.
 -- Assumes nothing.
-use mathlib.Core.Path.{_≡_, refl, ap, ap₂, _∙_}
+use mathlib.Core.Path.{_≡_, refl, ap₂}
 use mathlib.Core.List.{List}
-use Prim.Native.Nat.{ℕ, zero, suc, _+_, _-_, _*_, _/_, _%_, _^_, _≤_, _<_}
+use Prim.Native.Nat.{ℕ, _+_, _-_, _*_, _/_, _%_, _^_, _≤_, _<_}
 use native.Mathlib.Omega.{arith}
-use native.Mathlib.Nat.{mod-lt, le-of-lt, suc-mul}
+use native.Mathlib.Nat.{mod-lt, le-of-lt}
 use borrow.Author.Needs.{needs}
 use denote.Ref.{now}
 use lib.ListN.{length}
 use Rattle.bits.proofs.Bits.{within}
 use Rattle.grid.proofs.Accepted.{facts, rows-pos, columns-pos}
+use Rattle.rows.proofs.Whole.{last-row}
 use Rattle.writing.proofs.Bounds.{stays-writable, CanWrite}
 use Rattle.writing.proofs.Stored.{Stored, Run, wide}
 use Rattle.writing.proofs.EvenRuns.{plane-fits, can-write-run, lines, Before, Within, EvenBlock, PieceFits, piece-fits, piece-ends, Together, line-run, pieces-none, pieces-enter, pieces-turn, pieces-leave, pieces-done}
@@ -51,10 +52,6 @@ plane-in c = let s = c .before .before .before .before .before .before .before .
 
 data-in : (s : tie.Start Inv-loop2 μ-loop2 Inv-loop μ-loop) → length (now (s .args .«data»)) < 2 ^ 64
 data-in s = omega arith
-
-whole-lines : (m x : ℕ) → 0 < m → m * x ≡ (m - 1) * x + x
-whole-lines zero x h = absurd (omega arith)
-whole-lines (suc m) x h = suc-mul m x ∙ ap (λ (y : ℕ). y * x + x) (let e : m ≡ suc m - 1 = omega arith in e)
 
 -- the piece at hand has a sample at least, and ends with the band's samples at the latest
 ends : (c : tie.After-least Inv-loop2 μ-loop2 Inv-loop μ-loop)
@@ -262,8 +259,8 @@ write-rows-requires c κs =
     let m = t .lines-together .result in
     let size = t .before .before .before .before .before .before .before .before .before .before .sample-bytes .result in
     let last = can-turn turn (m - 1) (omega (arith, t .lines-together .ensures .0)) in
-    let e : m * (n * size) ≡ (m - 1) * (n * size) + n * size = whole-lines m (n * size) (t .lines-together .ensures .0) in (
-      (last .0 .0, last .0 .1, omega (arith, last .0 .2)),
+    let e : m * (n * size) ≡ (m - 1) * (n * size) + n * size = last-row m (n * size) (t .lines-together .ensures .0) in (
+      (last .0 .0, last .0 .1, t .lines-together .ensures .0, omega (arith, last .0 .2)),
       λ i h. let q = can-turn turn i h in record { whole = q .1 .0; inside = q .1 .1 .1; fits = q .1 .1 .0 },
     )
 
