@@ -1,5 +1,6 @@
-//! Cases at the limits that the drawn ones do not reach: blocks of more than 64 rows, blocks that
-//! the original gives to its parallel form, and grids at the limits of questions 1, 3 and 4.
+//! Cases that the drawn ones do not reach: blocks of more than 64 rows, blocks that the original gives
+//! to its parallel form, pixels longer than a line of the cache, and grids at the limits of questions
+//! 1, 3 and 4.
 
 use crate::model::layout;
 use crate::{Call, Case, Grid, Mode, Pack, Source};
@@ -19,11 +20,40 @@ fn read(from: &mut Source, grid: Grid, (row, column): (u32, u32), bands: Option<
     Case::Read { grid, image, row, column, level: 0, bands }
 }
 
+/// A frame of two by two blocks, of which one is written and the others are skipped.
+fn write(from: &mut Source, grid: Grid, block: (u32, u32)) -> Case {
+    let mut calls = Vec::new();
+    for (row, column) in [(0, 0), (0, 1), (1, 0), (1, 1)] {
+        if (row, column) == block {
+            let (rows, columns) =
+                (layout::actual_rows(&grid, row), layout::actual_columns(&grid, column));
+            let data =
+                bytes(from, u64::from(grid.bands) * rows * columns * layout::sample_bytes(&grid));
+            calls.push(Call::Write {
+                row,
+                column,
+                shape: [grid.bands, rows as u32, columns as u32],
+                data,
+            });
+        } else {
+            calls.push(Call::Skip { row, column });
+        }
+    }
+    calls.push(Call::Finish);
+    Case::Frame { grid, calls }
+}
+
+/// As many bytes as the samples of a reordering take.
+fn samples(from: &mut Source, pack: Pack) -> Vec<u8> {
+    bytes(from, [pack.rows, pack.columns, pack.bands, pack.size].map(u64::from).iter().product())
+}
+
 /// Makes the cases one after another, as together they are large.
 pub fn large() -> impl Iterator<Item = Case> {
     let mut makers: Makers = Vec::new();
     many_rows(&mut makers);
     parallel(&mut makers);
+    long_pixels(&mut makers);
     many_bands(&mut makers);
     many_blocks(&mut makers);
     zero_counts(&mut makers);
@@ -55,6 +85,41 @@ fn parallel(makers: &mut Makers) {
             assert!(samples * layout::sample_bytes(&grid) >= PARALLEL);
             for list in [None, Some(vec![2, 0])] {
                 makers.push(Box::new(move |from| read(from, grid, (0, 0), list)));
+            }
+        }
+    }
+}
+
+/// Several bands whose pixel is longer than 64 bytes, and rows of so many bands; blocks at the lower right lack rows and columns.
+fn long_pixels(makers: &mut Makers) {
+    for mode in Mode::ALL {
+        for nbpp in [7, 8, 12, 16, 24, 32, 40, 64] {
+            for bands in [16, 17, 23, 67] {
+                let grid = Grid::new([31, 29], bands, nbpp, mode, [19, 17]);
+                for block in [(0, 0), (1, 1)] {
+                    for list in
+                        [None, Some(vec![bands - 1, 3, 11]), Some((0..bands).rev().collect())]
+                    {
+                        makers.push(Box::new(move |from| read(from, grid, block, list)));
+                    }
+                    makers.push(Box::new(move |from| write(from, grid, block)));
+                }
+                let pack = Pack { mode, rows: 19, columns: 17, bands, size: nbpp.div_ceil(8) };
+                makers.push(Box::new(move |from| Case::ToSequential {
+                    pack,
+                    data: samples(from, pack),
+                }));
+                makers.push(Box::new(move |from| Case::FromSequential {
+                    pack,
+                    data: samples(from, pack),
+                }));
+                for list in [vec![bands - 1, 3, 11], (0..bands).rev().collect()] {
+                    let pack = Pack { mode: Mode::P, ..pack };
+                    makers.push(Box::new(move |from| {
+                        let data = samples(from, pack);
+                        Case::Select { pack, data, bands: Some(list), tile: 8, parallel: false }
+                    }));
+                }
             }
         }
     }
