@@ -2,7 +2,7 @@
 
 use std::hint::black_box;
 
-use gezdunar::{Bands, Grid, InterleaveMode, Shape, Sizes, Window};
+use gezdunar::{Bands, Grid, Shape, Sizes, Window};
 use original::owned_buffer::OwnedBuffer;
 
 use crate::buffers::{source, source_of, Output};
@@ -30,7 +30,6 @@ pub fn decoded_bytes(grid: &Grid, block: Block, bands: Option<&[u32]>) -> usize 
 
 /// Out of the image, where memcpy moves the block's own bytes.
 fn runs(grid: &Grid, block: Block, memcpy: Memcpy) -> Option<Vec<Move>> {
-    let is_plain = grid.imode != InterleaveMode::P && grid.nbpp % 8 == 0;
     let shape = shape(grid, block, None);
     let window = Window {
         row: block.0 * grid.nppbv,
@@ -38,7 +37,7 @@ fn runs(grid: &Grid, block: Block, memcpy: Memcpy) -> Option<Vec<Move>> {
         rows: shape.rows as u32,
         columns: shape.columns as u32,
     };
-    (is_plain && memcpy == Memcpy::Runs).then(|| of_image(grid, &window))
+    memcpy.is_by_runs(grid).then(|| of_image(grid, &window))
 }
 
 fn decode_block(image: &OwnedBuffer, grid: &Grid, block: Block, bands: Option<&[u32]>, out: &mut Output) {

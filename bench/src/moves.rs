@@ -26,6 +26,13 @@ pub enum Memcpy {
     AtOnce,
 }
 
+impl Memcpy {
+    /// Are the same bytes moved?
+    pub fn is_by_runs(self, grid: &Grid) -> bool {
+        self == Memcpy::Runs && grid.imode != InterleaveMode::P && grid.nbpp.is_multiple_of(8)
+    }
+}
+
 /// So many bytes from the start of the source to the start of the output.
 pub fn at_once(length: usize) -> Vec<Move> {
     vec![Move { from: 0, to: 0, length }]

@@ -2,7 +2,7 @@
 
 use std::hint::black_box;
 
-use gezdunar::{Bands, Grid, InterleaveMode, Window};
+use gezdunar::{Bands, Grid, Window};
 use original::jbp::image::nc_decoder::UncompressedBlockDecoder;
 use original::owned_buffer::OwnedBuffer;
 
@@ -39,8 +39,7 @@ pub fn read(grid: &Grid, window: Window, memcpy: Memcpy) -> Times {
     read_blocks(&decoder, &parts, &mut rust_out);
     let expected = rust::big_endian(grid.imode, sizes(grid).sample_bytes, rust_out.bytes().to_vec());
     assert!(out.bytes() == expected, "the samples differ: {grid:?}");
-    let is_plain = grid.imode != InterleaveMode::P && grid.nbpp % 8 == 0;
-    let moves = if is_plain && memcpy == Memcpy::Runs {
+    let moves = if memcpy.is_by_runs(grid) {
         let moves = of_image(grid, &window);
         apply(&moves, image.as_bytes(), &mut copied);
         assert!(out.bytes() == copied.bytes(), "memcpy moves other bytes: {grid:?}");
