@@ -5,10 +5,10 @@ use std::time::{Duration, Instant};
 
 /// A round calls a side as often as fills this time, so that short calls find their own caches.
 const ROUND: Duration = Duration::from_millis(3);
-const LEAST_ROUNDS: u32 = 7;
-const MOST_ROUNDS: u32 = 40;
+const LEAST_ROUNDS: u32 = 3;
+const MOST_ROUNDS: u32 = 15;
 /// No further round after this time.
-const ENOUGH: Duration = Duration::from_millis(800);
+const ENOUGH: Duration = Duration::from_millis(270);
 
 pub enum Side<'a> {
     /// A call that can be made again and again.

@@ -30,6 +30,16 @@ impl Times {
         Times { rust: None, product, memcpy: Some(memcpy) }
     }
 
+    /// The better time of each side.
+    pub fn best(self, other: Times) -> Times {
+        let least = |a: Option<f64>, b: Option<f64>| a.zip(b).map(|(a, b)| a.min(b));
+        Times {
+            rust: least(self.rust, other.rust),
+            product: self.product.min(other.product),
+            memcpy: least(self.memcpy, other.memcpy),
+        }
+    }
+
     fn to_rust(&self) -> Option<f64> {
         self.rust.map(|seconds| seconds / self.product)
     }
