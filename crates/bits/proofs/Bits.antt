@@ -1,10 +1,10 @@
 -- Laws of bits: of a number, of a list of bytes, after bits are put, within one byte, and of whole bytes.
 -- Assumes nothing.
-use mathlib.Core.Path.{_≡_, refl, sym, ap, ap₂, _∙_, subst}
-use mathlib.Core.List.{List, [], _∷_}
+use mathlib.Core.Path.{_≡_, refl, sym, ap, ap₂, _∙_}
+use mathlib.Core.List.{List}
 use mathlib.Core.Logic.{_⊎_, inl, inr, ⊎-elim}
 use Prim.Native.Nat.{ℕ, zero, suc, _+_, _-_, _*_, _/_, _%_, _^_, _≤_, _<_}
-use native.Mathlib.Nat.{mod-lt, pow-suc, add-zero, add-suc, div-add-mod', mul-assoc, add-mul, add-assoc, mod-eq-of-lt, zero-lt-suc, lt-of-lt-of-le, mod-one, mul-one, div-one, suc-mul, mul-le-mul-right}
+use native.Mathlib.Nat.{mod-lt, pow-suc, add-zero, add-suc, mul-assoc, add-assoc, zero-lt-suc, lt-of-lt-of-le, mod-one, mul-one, div-one, suc-mul, mul-le-mul-right}
 use native.Mathlib.Numerals.{add-one, one-add}
 use native.Mathlib.Decide.{ℕ-discrete, decLt}
 use native.Mathlib.Omega.{arith}

@@ -11,9 +11,9 @@ use lib.ListN.{length, getD, set}
 use lib.Seq.{set-getD}
 use lib.Pow.{split, pow-pos, high, low, shr-shr, mod-pow-add}
 use Rattle.bits.specs.Bits.{withBit, withField, bitAt, bitsAt, setBit, putBits, Bytes, beAt, beBytes}
-use Rattle.bits.specs.Over.{over}
+use Rattle.common.specs.Over.{over}
 use Rattle.bits.proofs.Bits.{bitAt-lt, bitsAt-lt, bitsAt-add, putBits-add, putBits-apart}
-use Rattle.bits.proofs.Bytes.{putBits-bytes, bitsAt-bytes}
+use Rattle.bits.proofs.BigEndian.{putBits-bytes, bitsAt-bytes}
 
 -- the low digit, and those above it
 digits : (v n : ℕ) → v % 2 ^ suc n ≡ v / 2 % 2 ^ n * 2 + v % 2

@@ -1,7 +1,6 @@
 -- The laws of `bits`.
 pub mod Bits
-pub mod Over
-pub mod Turns
-pub mod Bytes
+pub mod BigEndian
+pub mod Values
 pub mod Shift
 pub mod Joined

@@ -1,4 +1,5 @@
--- Numbers in bytes, high bit first. Bit p of a list of bytes is bit 7 - p % 8 of byte p / 8, where bit 0 of a number is its lowest.
+-- Numbers in bytes, high bit first. Bit p of a list of bytes is bit 7 - p % 8 of byte p / 8, where bit 0 of a number is
+-- its lowest.
 -- Assumes nothing.
 use mathlib.Core.List.{List, [], _∷_, _++_}
 use Prim.Native.Nat.{ℕ, zero, suc, _+_, _-_, _*_, _/_, _%_, _^_, _<_}

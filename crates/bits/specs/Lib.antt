@@ -1,4 +1,3 @@
 -- The definitions of `bits`.
 pub mod Bits
-pub mod Over
-pub mod Turns
+pub mod Values

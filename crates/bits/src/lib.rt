@@ -1,15 +1,11 @@
 // Numbers of 1 to 64 bits at any bit of a byte slice, high bit first.
 ghost use mathlib.Core.Path.{_≡_};
-ghost use Prim.Native.Nat.{_+_, _*_, _/_, _%_, _^_, _≤_, _<_, min};
+ghost use Prim.Native.Nat.{_+_, _*_, _/_, _%_, _^_, _≤_, _<_};
 ghost use lib.ListN.{length};
 ghost use Rattle.bits.specs.Bits.{bitsAt, putBits, withField};
+use common::min;
 
-// The lesser of two.
-pub fn least(a: usize, b: usize) -> usize
-    ensures { λ r. ⌜ r ≡ min a b ⌝ }
-{
-    if a < b { a } else { b }
-}
+pub mod bytes;
 
 // The n bits of x from bit `low` up.
 fn field(x: u64, low: usize, n: usize) -> u64
@@ -41,7 +37,7 @@ pub fn get_bits(buf: &[u8], at: usize, width: usize) -> u64
     while done < width {
         let p = at + done;
         let room = 8 - p % 8;
-        let n = least(width - done, room);
+        let n = min(width - done, room);
         let f = field(buf[p / 8] as u64, room - n, n);
         acc = (acc << n) | f;
         done += n;
@@ -58,7 +54,7 @@ pub fn put_bits(buf: &mut [u8], at: usize, width: usize, value: u64)
     while done < width {
         let p = at + done;
         let room = 8 - p % 8;
-        let n = least(width - done, room);
+        let n = min(width - done, room);
         let f = field(value, width - done - n, n);
         let i = p / 8;
         buf[i] = merge(buf[i], room - n, n, f);

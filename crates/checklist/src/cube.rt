@@ -2,9 +2,9 @@
 ghost use mathlib.Core.Path.{_≡_};
 ghost use Prim.Native.Nat.{_<_, _≤_};
 ghost use lib.ListN.{length};
-use frame::Shape;
+use calls::Shape;
 use grid::Grid;
-use grid::InterleaveMode;
+use layout::InterleaveMode;
 
 fn mode(i: usize) -> InterleaveMode {
     match i {

@@ -2,20 +2,21 @@
 -- Assumes nothing.
 use Prim.Native.Nat.{ℕ, suc, _+_, _-_, _*_, _/_, _%_, _^_}
 use mathlib.Core.Bool.{true, false}
-use mathlib.Core.List.{List, [], _∷_, _++_, map}
+use mathlib.Core.List.{List, [], _∷_, _++_}
 use lib.ListN.{take, drop, replicate}
 use Rattle.bits.specs.Bits.{putBits}
 use Rattle.grid.specs.declared.Grid.{Grid}
-use Rattle.grid.specs.declared.InterleaveMode.{InterleaveMode}
-use Rattle.grid.specs.declared.InterleaveMode.the-variants.{B, P, R, S}
+use Rattle.layout.specs.declared.InterleaveMode.{InterleaveMode}
+use Rattle.layout.specs.declared.InterleaveMode.the-variants.{B, P, R, S}
 use Rattle.grid.specs.Check.{gridOf}
 use Rattle.grid.specs.Sizes.{sampleBytes, imageBytes, actualColumns}
 use Rattle.grid.specs.Layout.{place}
-use Rattle.grid.specs.Bands.{Bands, bandsOf}
-use Rattle.samples.specs.Patched.{tabulate}
-use Rattle.frame.specs.declared.Answer.{Answer}
-use Rattle.frame.specs.Reads.{Filled, Window, blockRead, window}
-use Rattle.frame.specs.Writes.{Left, start, write, progress, finish}
+use Rattle.layout.specs.Bands.{Bands, bandsOf}
+use Rattle.common.specs.Lists.{tabulate}
+use Rattle.calls.specs.declared.Answer.{Answer}
+use Rattle.calls.specs.Reads.{Filled, blockRead, window}
+use Rattle.calls.specs.Orders.{Window}
+use Rattle.calls.specs.Writes.{FrameOut, start, write, progress, finish}
 use Rattle.mask.specs.Mask.{WrittenOut, marksMask, toBytes}
 
 -- the figures' letters
@@ -35,7 +36,8 @@ small mode = gridOf 3 5 2 8 mode 4 2
 unfoldable pub corner : InterleaveMode → List ℕ
 corner mode = place (small mode) 1 1 0 0 0 / 8 ∷ place (small mode) 1 1 1 0 0 / 8 ∷ []
 
--- what a read of block (row, column) answers on an image of n bytes, byte q of which is q, with room for four bytes: the number, the shape, the output
+-- what a read of block (row, column) answers on an image of n bytes, byte q of which is q, with room for four bytes:
+-- the number, the shape, the output
 unfoldable pub readOf : InterleaveMode → ℕ → ℕ → ℕ → Bands → List ℕ
 readOf mode n row column bands =
     let r : Filled = blockRead (small mode) (tabulate n (λ q. q)) row column 0 bands (0 ∷ 0 ∷ 0 ∷ 0 ∷ []) in
@@ -60,21 +62,25 @@ unfoldable pub laid : Grid → ℕ → ℕ → ℕ → List ℕ → List ℕ →
 laid grid row column n [] image = image
 laid grid row column n (v ∷ vs) image =
     laid grid row column (suc n) vs
-    (putBits image (place grid row column 0 (n / actualColumns grid column) (n % actualColumns grid column)) (grid .nbpp) v)
+    (putBits image (place grid row column 0 (n / actualColumns grid column) (n % actualColumns grid column))
+    (grid .nbpp) v)
 
 -- the image of a grid with the samples of one block
 unfoldable pub imageWith : Grid → ℕ → ℕ → List ℕ → List ℕ
 imageWith grid row column vs = laid grid row column 0 vs (replicate (imageBytes grid) 0)
 
--- a run of calls: a start on an image and a mark word of ones, a write of block (row, column), progress, finish, and a window on the
--- written row: the numbers of start and write, the count of progress, the number of finish, the image, the window's bytes
+-- a run of calls: a start on an image and a mark word of ones, a write of block (row, column), progress, finish, and a
+-- window on the
+-- written row: the numbers of start and write, the count of progress, the number of finish, the image, the window's
+-- bytes
 unfoldable pub runOf : Grid → ℕ → ℕ → ℕ → ℕ → List ℕ → List ℕ
 runOf grid row column rows columns dat =
-    let s : Left = start grid (replicate (imageBytes grid) 255) ((2 ^ 64 - 1) ∷ []) in
-    let w : Left = write grid (s .image) (s .marks) row column 1 rows columns dat in
+    let s : FrameOut = start grid (replicate (imageBytes grid) 255) ((2 ^ 64 - 1) ∷ []) in
+    let w : FrameOut = write grid (s .image) (s .marks) row column 1 rows columns dat in
     let p : Answer = progress grid (w .marks) in
     let f : Answer = finish grid (w .image) (w .marks) in
-    let part : Window = record { row = 0; column = column * grid .nppbh; rows = 1; columns = columns; bands = everyBand } in
+    let part : Window
+    = record { row = 0; column = column * grid .nppbh; rows = 1; columns = columns; bands = everyBand } in
     let seen : Filled = window grid (w .image) part (replicate (columns * sampleBytes grid) 0) in
     s .answer .number ∷ w .answer .number ∷ p .first ∷ f .number ∷ (w .image ++ seen .out)
 
@@ -93,12 +99,24 @@ figures =
     ∷ record { letter = fig-e; found = readOf P 50 1 1 everyBand; paper = 0 ∷ 2 ∷ 1 ∷ 1 ∷ 48 ∷ 49 ∷ 0 ∷ 0 ∷ [] }
     ∷ record { letter = fig-f; found = readOf P 49 1 1 everyBand; paper = 7 ∷ 0 ∷ 0 ∷ 0 ∷ 0 ∷ 0 ∷ 0 ∷ 0 ∷ [] }
     ∷ record { letter = fig-g; found = readOf P 64 2 0 everyBand; paper = 6 ∷ 0 ∷ 0 ∷ 0 ∷ 0 ∷ 0 ∷ 0 ∷ 0 ∷ [] }
-    ∷ record { letter = fig-h; found = readOf P 64 1 1 (listed (1 ∷ 1 ∷ [])); paper = 0 ∷ 2 ∷ 1 ∷ 1 ∷ 49 ∷ 49 ∷ 0 ∷ 0 ∷ [] }
+    ∷ record {
+      letter = fig-h;
+      found = readOf P 64 1 1 (listed (1 ∷ 1 ∷ []));
+      paper = 0 ∷ 2 ∷ 1 ∷ 1 ∷ 49 ∷ 49 ∷ 0 ∷ 0 ∷ [];
+    }
     ∷ record { letter = fig-i; found = readOf P 64 1 1 (listed (2 ∷ [])); paper = 8 ∷ 0 ∷ 0 ∷ 0 ∷ 0 ∷ 0 ∷ 0 ∷ 0 ∷ [] }
     ∷ record { letter = fig-j; found = readOf P 64 1 1 (listed []); paper = 0 ∷ 0 ∷ 1 ∷ 1 ∷ 0 ∷ 0 ∷ 0 ∷ 0 ∷ [] }
-    ∷ record { letter = fig-k; found = imageWith (line 12 3) 0 0 (0x123 ∷ 0x456 ∷ 0x789 ∷ []); paper = 0x12 ∷ 0x34 ∷ 0x56 ∷ 0x78 ∷ 0x90 ∷ [] }
+    ∷ record {
+      letter = fig-k;
+      found = imageWith (line 12 3) 0 0 (0x123 ∷ 0x456 ∷ 0x789 ∷ []);
+      paper = 0x12 ∷ 0x34 ∷ 0x56 ∷ 0x78 ∷ 0x90 ∷ [];
+    }
     ∷ record { letter = fig-k; found = imageWith (line 12 1) 0 0 (0xF123 ∷ []); paper = 0x12 ∷ 0x30 ∷ [] }
-    ∷ record { letter = fig-k; found = runOf (line 12 1) 0 0 1 1 (0xF1 ∷ 0x23 ∷ []); paper = 0 ∷ 0 ∷ 1 ∷ 0 ∷ 0x12 ∷ 0x30 ∷ 0x01 ∷ 0x23 ∷ [] }
+    ∷ record {
+      letter = fig-k;
+      found = runOf (line 12 1) 0 0 1 1 (0xF1 ∷ 0x23 ∷ []);
+      paper = 0 ∷ 0 ∷ 1 ∷ 0 ∷ 0x12 ∷ 0x30 ∷ 0x01 ∷ 0x23 ∷ [];
+    }
     ∷ record {
       letter = fig-l;
       found = imageWith (line 1 10) 0 0 (1 ∷ 0 ∷ 1 ∷ 1 ∷ 0 ∷ 0 ∷ 0 ∷ 1 ∷ 1 ∷ 1 ∷ []);
@@ -119,6 +137,7 @@ figures =
       letter = fig-n;
       found = maskOf (0 ∷ 0xFFFF_FFFF ∷ []);
       paper =
-          0 ∷ 0x00 ∷ 0x00 ∷ 0x00 ∷ 0x12 ∷ 0x00 ∷ 0x04 ∷ 0x00 ∷ 0x00 ∷ 0x00 ∷ 0x00 ∷ 0x00 ∷ 0x00 ∷ 0x00 ∷ 0x00 ∷ 0xFF ∷ 0xFF ∷ 0xFF ∷ 0xFF ∷ [];
+          0 ∷ 0x00 ∷ 0x00 ∷ 0x00 ∷ 0x12 ∷ 0x00 ∷ 0x04 ∷ 0x00 ∷ 0x00 ∷ 0x00 ∷ 0x00
+          ∷ 0x00 ∷ 0x00 ∷ 0x00 ∷ 0x00 ∷ 0xFF ∷ 0xFF ∷ 0xFF ∷ 0xFF ∷ [];
     }
     ∷ []

@@ -9,20 +9,20 @@ use Rattle.grid.specs.declared.Grid.{Grid}
 use Rattle.grid.specs.Sizes.{sampleBytes, blockIndex}
 use Rattle.grid.proofs.Accepted.{facts, index-lt}
 use Rattle.grid.proofs.SamplePlaces.{inside}
-use Rattle.grid.specs.Bands.{bandCount}
-use Rattle.frame.specs.Reads.{windowOf}
-use Rattle.frame.specs.Writes.{startNumber}
+use Rattle.layout.specs.Bands.{bandCount}
+use Rattle.calls.specs.Reads.{windowOf}
+use Rattle.calls.specs.Orders.{startNumber}
 use Rattle.frame.specs.Calls.{Call, started}
 use Rattle.frame.specs.PlainFrame.{frame0, frameWindow}
 use Rattle.frame.specs.Demand3.{after, plain, Alike, Demand3}
-use Rattle.frame.proofs.Numbers.{start-facts}
-use Rattle.frame.proofs.ListOfCalls.{RunOk, run-ok, start-ok}
+use Rattle.calls.proofs.Numbers.{start-facts}
+use Rattle.frame.proofs.ListOfCalls.{CalledOk, calls-ok, start-ok}
 use Rattle.frame.proofs.WindowNumbers.{window-is, window-whole, alike}
 
 ran : (g : Grid) (image marks : List ℕ) (cs : List Call) → startNumber g (length image) (length marks) ≡ 0
-    → RunOk g image marks (after g image marks cs) (plain g image marks cs)
+    → CalledOk g image marks (after g image marks cs) (plain g image marks cs)
 ran g image marks cs e =
-    run-ok g image marks cs (started g image marks) (frame0 g (length image) (length marks)) (start-ok g image marks e)
+    calls-ok g image marks cs (started g image marks) (frame0 g (length image) (length marks)) (start-ok g image marks e)
 
 pub demand3 : Demand3
 unfolding frameWindow

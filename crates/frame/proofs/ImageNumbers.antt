@@ -12,16 +12,16 @@ use lib.ListN.{length, take, drop, replicate, length-take, length-replicate, tak
 use lib.Pow.{pow-pos}
 use lib.Seq.{length-front, drop-append-le}
 use Rattle.bits.specs.Bits.{bitOf, bitAt}
-use Rattle.bits.specs.Over.{over}
+use Rattle.common.specs.Over.{over}
 use Rattle.grid.specs.declared.Grid.{Grid}
-use Rattle.grid.specs.Questions.{every, pick}
+use Rattle.common.specs.Tests.{every, pick}
 use Rattle.grid.specs.Sizes.{imageBytes, actualRows, actualColumns}
 use Rattle.grid.specs.Layout.{place, Block, Sample, SampleBit}
-use Rattle.grid.proofs.Questions.{every-at, pick-yes, pick-no}
-use Rattle.grid.proofs.Arith.{part-of}
+use Rattle.common.proofs.Tests.{every-at, pick-yes, pick-no}
+use Rattle.common.proofs.Arith.{part-of}
 use Rattle.grid.proofs.Accepted.{rows-le, columns-le}
 use Rattle.grid.proofs.SamplePlaces.{inside}
-use Rattle.frame.specs.Writes.{dataAt, storeBlock}
+use Rattle.calls.specs.Writes.{dataAt, storeBlock}
 use Rattle.frame.specs.PlainFrame.{inBlock, written}
 use Rattle.frame.proofs.ListBits.{bit-zero, bitAt-take, bitAt-left, zeros-in, drop-past}
 use Rattle.frame.proofs.Lengths.{length-zeros, length-storeBlock}

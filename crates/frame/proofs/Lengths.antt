@@ -9,20 +9,21 @@ use native.Mathlib.Nat.{mul-le-mul-right}
 use lib.Arith.{digits-lt}
 use lib.ListN.{length, replicate, length-replicate}
 use Rattle.bits.specs.Bits.{putBits}
-use Rattle.bits.specs.Over.{over}
+use Rattle.common.specs.Questions.{outcome}
+use Rattle.common.specs.Over.{over}
 use Rattle.bits.proofs.Bits.{length-putBits}
-use Rattle.bits.proofs.Over.{length-over}
+use Rattle.common.proofs.Over.{length-over}
 use Rattle.grid.specs.declared.Grid.{Grid}
-use Rattle.grid.specs.declared.InterleaveMode.{InterleaveMode}
-use Rattle.grid.specs.declared.InterleaveMode.the-variants.{B, P, R, S}
+use Rattle.layout.specs.declared.InterleaveMode.{InterleaveMode}
+use Rattle.layout.specs.declared.InterleaveMode.the-variants.{B, P, R, S}
 use Rattle.grid.specs.Sizes.{bandBytes, blocks, imageBytes, blockIndex, actualRows, actualColumns, byteMultiple}
 use Rattle.grid.specs.Layout.{runByte, place, Block, Sample}
-use Rattle.grid.proofs.Accepted.{index-lt}
+use Rattle.grid.proofs.SamplePlaces.{run-inside}
 use Rattle.marks.specs.Marks.{markWords}
-use Rattle.frame.specs.Writes.{dataAt, putBlock, clearRuns, storeBy, storeBlock, startBy, start}
-use Rattle.bits.proofs.Turns.{iter-keep}
-use Rattle.frame.proofs.Loops.{iter3-keep}
-use Rattle.frame.proofs.Numbers.{Enough, start-facts}
+use Rattle.calls.specs.Writes.{dataAt, putBlock, clearRuns, storeBy, storeBlock, frameOut, number, unchanged, start}
+use Rattle.common.proofs.Turns.{iter-keep}
+use Rattle.common.proofs.Loops.{iter3-keep}
+use Rattle.calls.proofs.Numbers.{Enough, start-facts}
 
 -- ---- what each part of a store keeps
 
@@ -39,17 +40,6 @@ pub clear-keep : (g : Grid) (row column : ℕ) (Q : List ℕ → Type 0)
     → (image : List ℕ) → Q image → Q (clearRuns g row column image)
 unfolding clearRuns
 clear-keep g row column Q s image q = iter-keep Q (g .bands) _ image s q
-
--- a run lies inside the image
-run-in : (m : InterleaveMode) (g : Grid) (index k : ℕ) → index < blocks g → k < g .bands → runByte m g index k + bandBytes g ≤ imageBytes g
-run-in B g index k hi hk = omega (arith, mul-le-mul-right (bandBytes g) (digits-lt {q = index} {m = blocks g} hi hk))
-run-in P g index k hi hk = omega (arith, mul-le-mul-right (bandBytes g) (digits-lt {q = index} {m = blocks g} hi hk))
-run-in R g index k hi hk = omega (arith, mul-le-mul-right (bandBytes g) (digits-lt {q = index} {m = blocks g} hi hk))
-run-in S g index k hi hk = omega (arith, mul-le-mul-right (bandBytes g) (digits-lt {q = k} {m = g .bands} {r = index} {c = blocks g} hk hi))
-
-pub run-inside : (g : Grid) (row column k : ℕ) → Block g row column → k < g .bands
-    → runByte (g .imode) g (blockIndex g row column) k + bandBytes g ≤ imageBytes g
-run-inside g row column k t hk = run-in (g .imode) g (blockIndex g row column) k (index-lt g row column t) hk
 
 -- ---- lengths
 
@@ -84,22 +74,19 @@ length-storeBlock g row column dat image t h = length-storeBy (byteMultiple g) g
 pub length-zeros : (xs : List ℕ) (n : ℕ) → n ≤ length xs → length (over xs 0 (replicate n 0)) ≡ length xs
 length-zeros xs n h = length-over xs 0 (replicate n 0) (omega (arith, length-replicate {A = ℕ} n 0))
 
+-- whether or not the start is accepted
 module _ (g : Grid) (image marks : List ℕ) where
-  start-image : (n : ℕ) → (n ≡ 0 → Enough g (length image) (length marks)) → length (startBy n g image marks .image) ≡ length image
-  unfolding startBy
-  start-image zero f = length-zeros image (imageBytes g) (f refl .bytes)
-  start-image (suc n) f = refl
+  started : (n : ℕ) → (n ≡ 0 → Enough g (length image) (length marks))
+      → let l = outcome n (frameOut (number 0) (over image 0 (replicate (imageBytes g) 0)) (over marks 0 (replicate (markWords (blocks g)) 0))) (unchanged image marks) in
+      (length (l .image) ≡ length image) × (length (l .marks) ≡ length marks)
+  unfolding outcome
+  started zero f = let a = f refl in (length-zeros image (imageBytes g) (a .bytes), length-zeros marks (markWords (blocks g)) (a .words))
+  started (suc n) f = (refl, refl)
 
-  start-marks : (n : ℕ) → (n ≡ 0 → Enough g (length image) (length marks)) → length (startBy n g image marks .marks) ≡ length marks
-  unfolding startBy
-  start-marks zero f = length-zeros marks (markWords (blocks g)) (f refl .words)
-  start-marks (suc n) f = refl
-
-  -- whether or not the start is accepted
   pub length-start-image : length (start g image marks .image) ≡ length image
   unfolding start
-  length-start-image = start-image _ (start-facts g (length image) (length marks))
+  length-start-image = started _ (start-facts g (length image) (length marks)) .0
 
   pub length-start-marks : length (start g image marks .marks) ≡ length marks
   unfolding start
-  length-start-marks = start-marks _ (start-facts g (length image) (length marks))
+  length-start-marks = started _ (start-facts g (length image) (length marks)) .1

@@ -10,8 +10,8 @@ use native.Mathlib.Nat.{zero-div}
 use lib.ListN.{length, getD, take, drop, replicate, length-replicate, getD-replicate, List·getD-append}
 use lib.Seq.{getD-take, drop-drop, drop-set-lt}
 use Rattle.bits.specs.Bits.{bitOf, bitAt, setBit, putBits}
-use Rattle.bits.specs.Over.{over}
-use Rattle.bits.proofs.Over.{drop-over, getD-over-in, getD-over-before, getD-over-after}
+use Rattle.common.specs.Over.{over}
+use Rattle.common.proofs.Over.{drop-over, getD-over-in, getD-over-before, getD-over-after}
 
 -- ---- the front of a list
 

@@ -6,18 +6,29 @@ use mathlib.Core.Bool.{Bool, false}
 use mathlib.Core.List.{List, [], _∷_, _++_}
 use native.Mathlib.Omega.{arith}
 use lib.ListN.{length, take, drop, length-take, take-append-drop}
+use Rattle.common.specs.Questions.{outcome}
+use Rattle.common.proofs.Questions.{outcome-yes}
 use Rattle.grid.specs.declared.Grid.{Grid}
 use Rattle.grid.specs.Sizes.{blockIndex}
 use Rattle.grid.specs.Layout.{Block}
 use Rattle.grid.proofs.Accepted.{facts, index-lt}
-use Rattle.marks.specs.Marks.{marked}
-use Rattle.frame.specs.Writes.{left, number, startNumber, startBy, start, writeNumber, writeBy, skipNumber, skipBy, progressNumber, progressAnswer, finishNumber, finishAnswer}
-use Rattle.frame.specs.Writes as W
-use Rattle.frame.specs.Calls.{Call, write, skip, progress, finish, State, Step, back, step, Run, run, started}
-use Rattle.frame.specs.PlainFrame.{Frame, FrameStep, FrameRun, frame0, frameWrite, frameSkip, frameStep, frameRun}
-use Rattle.frame.proofs.Numbers.{Enough, start-facts, write-facts, skip-facts, progress-facts, finish-facts}
+use Rattle.marks.specs.Marks.{marked, mark}
+use Rattle.calls.specs.Writes.{frameOut, number, unchanged, start, storeBlock, progressAnswer, finishAnswer}
+use Rattle.calls.specs.Orders.{startNumber, writeNumber, skipNumber, progressNumber}
+use Rattle.calls.specs.Writes as W
+use Rattle.frame.specs.Calls.{Call, write, skip, progress, finish, State, Step, putBack, step, Called, callAll, started}
+use Rattle.frame.specs.PlainFrame.{Frame, FrameStep, FrameCalled, frame0, frameWrite, frameSkip, frameStep, frameCallAll}
+use Rattle.calls.proofs.Numbers.{Enough, start-facts, write-facts, skip-facts, progress-facts}
 use Rattle.frame.proofs.ImageNumbers.{Holding, image-started, image-written}
 use Rattle.frame.proofs.MarksReached.{Marking, marks-started, lent-marks, marks-reached, progress-ext, finish-ext}
+
+-- what a write and a skip leave, by their number
+abbrev writeBy : ℕ → Grid → List ℕ → List ℕ → ℕ → ℕ → List ℕ → W.FrameOut
+writeBy k g image marks row column dat =
+    outcome k (frameOut (number 0) (storeBlock g row column dat image) (mark marks (blockIndex g row column))) (unchanged image marks)
+
+abbrev skipBy : ℕ → Grid → List ℕ → List ℕ → ℕ → ℕ → W.FrameOut
+skipBy k g image marks row column = outcome k (frameOut (number 0) image (mark marks (blockIndex g row column))) (unchanged image marks)
 
 -- after a start with grid g on image₀ and marks₀: both have that grid, the plain frame knows the lengths, and image and marks are as it says
 pub record Inv (g : Grid) (image₀ marks₀ : List ℕ) (s : State) (f : Frame) : Type 0 where
@@ -49,12 +60,12 @@ module _ (g : Grid) (image₀ marks₀ image marks : List ℕ) (numbers : ℕ �
   whole : (n m : ℕ) → _≡_ {A = State} s (record { grid = g; image = take n image ++ drop n image; marks = take m marks ++ drop m marks })
   whole n m = λ i. record { grid = g; image = sym (take-append-drop n image) i; marks = sym (take-append-drop m marks) i }
 
-  refused : (n m k : ℕ) → StepOk g image₀ marks₀ (back n m s (left (number k) (take n image) (take m marks))) (record { answer = number k; frame = f })
+  refused : (n m k : ℕ) → StepOk g image₀ marks₀ (putBack n m s (frameOut (number k) (take n image) (take m marks))) (record { answer = number k; frame = f })
   refused n m k = record { answer = refl; inv = subst (λ (x : State). Inv g image₀ marks₀ x f) (whole n m) same }
 
   write-step : (k n m row column : ℕ) (dat : List ℕ) → (k ≡ 0 → Enough g (length (take n image)) (length (take m marks)) × Block g row column)
-      → StepOk g image₀ marks₀ (back n m s (writeBy k g (take n image) (take m marks) row column dat)) (frameWrite k f row column dat)
-  unfolding writeBy frameWrite
+      → StepOk g image₀ marks₀ (putBack n m s (writeBy k g (take n image) (take m marks) row column dat)) (frameWrite k f row column dat)
+  unfolding outcome frameWrite
   write-step zero n m row column dat q =
       let a = q refl in
       record {
@@ -71,8 +82,8 @@ module _ (g : Grid) (image₀ marks₀ image marks : List ℕ) (numbers : ℕ �
   write-step (suc k) n m row column dat q = refused n m (suc k)
 
   skip-step : (k n m row column : ℕ) → (k ≡ 0 → Enough g (length (take n image)) (length (take m marks)) × Block g row column)
-      → StepOk g image₀ marks₀ (back n m s (skipBy k g (take n image) (take m marks) row column)) (frameSkip k f row column)
-  unfolding skipBy frameSkip
+      → StepOk g image₀ marks₀ (putBack n m s (skipBy k g (take n image) (take m marks) row column)) (frameSkip k f row column)
+  unfolding outcome frameSkip
   skip-step zero n m row column q =
       let a = q refl in
       record {
@@ -114,8 +125,8 @@ module _ (g : Grid) (image₀ marks₀ image marks : List ℕ) (numbers : ℕ �
       }
   step-at (finish n m) =
       record {
-        answer = finish-ext _ g (marked (take m marks)) seen (λ e. lent-marks g marks₀ marks seen reached m (finish-facts g _ _ e .words))
-            ∙ ap₂ (λ (x y : ℕ). finishAnswer (finishNumber g x y) g seen) (bytes-lent n) (words-lent m);
+        answer = finish-ext _ g (marked (take m marks)) seen (λ e. lent-marks g marks₀ marks seen reached m (start-facts g _ _ e .words))
+            ∙ ap₂ (λ (x y : ℕ). finishAnswer (startNumber g x y) g seen) (bytes-lent n) (words-lent m);
         inv = same;
       }
 
@@ -138,30 +149,32 @@ step-ok g image₀ marks₀ s f inv c =
 
 -- ---- the list
 
-pub record RunOk (g : Grid) (image₀ marks₀ : List ℕ) (r : Run) (fr : FrameRun) : Type 0 where
+pub record CalledOk (g : Grid) (image₀ marks₀ : List ℕ) (r : Called) (fr : FrameCalled) : Type 0 where
   pub answers : r .answers ≡ fr .answers
   pub inv : Inv g image₀ marks₀ (r .state) (fr .frame)
 
-pub run-ok : (g : Grid) (image₀ marks₀ : List ℕ) (cs : List Call) (s : State) (f : Frame) → Inv g image₀ marks₀ s f
-    → RunOk g image₀ marks₀ (run cs s) (frameRun cs f)
-unfolding run frameRun
-run-ok g image₀ marks₀ [] s f inv = record { answers = refl; inv = inv }
-run-ok g image₀ marks₀ (c ∷ cs) s f inv =
+pub calls-ok : (g : Grid) (image₀ marks₀ : List ℕ) (cs : List Call) (s : State) (f : Frame) → Inv g image₀ marks₀ s f
+    → CalledOk g image₀ marks₀ (callAll cs s) (frameCallAll cs f)
+unfolding callAll frameCallAll
+calls-ok g image₀ marks₀ [] s f inv = record { answers = refl; inv = inv }
+calls-ok g image₀ marks₀ (c ∷ cs) s f inv =
     let o = step-ok g image₀ marks₀ s f inv c in
-    let r = run-ok g image₀ marks₀ cs (step c s .state) (frameStep c f .frame) (o .inv) in
+    let r = calls-ok g image₀ marks₀ cs (step c s .state) (frameStep c f .frame) (o .inv) in
     record { answers = ap₂ _∷_ (o .answer) (r .answers); inv = r .inv }
 
 -- ---- the start
-
-start-by : (k : ℕ) (g : Grid) (image marks : List ℕ) → k ≡ 0 → Enough g (length image) (length marks)
-    → Holding g image (startBy k g image marks .image) (λ b y x. 0) × Marking g marks (startBy k g image marks .marks) (λ i. false)
-unfolding startBy
-start-by zero g image marks e a = (image-started g image (a .bytes), marks-started g marks (a .words))
-start-by (suc k) g image marks e a = absurd (omega arith)
 
 pub start-ok : (g : Grid) (image marks : List ℕ) → startNumber g (length image) (length marks) ≡ 0
     → Inv g image marks (started g image marks) (frame0 g (length image) (length marks))
 unfolding started start frame0
 start-ok g image marks e =
-    let a = start-by _ g image marks e (start-facts g _ _ e) in
-    record { s-grid = refl; f-grid = refl; image-known = refl; marks-known = refl; held = a .0; reached = a .1 }
+    let a = start-facts g _ _ e in
+    rw (outcome-yes _ (unchanged image marks) e)
+    (record {
+      s-grid = refl;
+      f-grid = refl;
+      image-known = refl;
+      marks-known = refl;
+      held = image-started g image (a .bytes);
+      reached = marks-started g marks (a .words);
+    })

@@ -10,12 +10,13 @@ use native.Mathlib.Decide.{ℕ-discrete}
 use borrow.Author.Tests.{eq-eqb, ne-eqb}
 use lib.ListN.{length, take, drop, replicate, length-take, length-replicate, take-append-drop}
 use lib.Seq.{length-front, drop-append-le, drop-set-lt}
-use Rattle.bits.specs.Over.{over}
+use Rattle.common.specs.Questions.{outcome}
+use Rattle.common.specs.Over.{over}
 use Rattle.grid.specs.declared.Grid.{Grid}
 use Rattle.grid.specs.Sizes.{blocks}
 use Rattle.marks.specs.Marks.{markWords, marked, mark}
 use Rattle.marks.proofs.Marks.{length-mark, mark-same, mark-other, marked-take, marked-left, marked-zeros, count-ext, first-ext}
-use Rattle.frame.specs.Writes.{progressAnswer, finishAnswer, unmarkedAnswer}
+use Rattle.calls.specs.Writes.{progressAnswer, finishAnswer, unmarkedAnswer}
 use Rattle.frame.specs.PlainFrame.{reach}
 use Rattle.frame.proofs.ListBits.{drop-past}
 use Rattle.frame.proofs.Lengths.{length-zeros}
@@ -80,11 +81,11 @@ module _ (g : Grid) (marks₀ marks : List ℕ) (reached : ℕ → Bool) (held :
 -- ---- the answers are known by the blocks' marks
 
 pub progress-ext : (n : ℕ) (g : Grid) (f h : ℕ → Bool) → (n ≡ 0 → (i : ℕ) → i < blocks g → f i ≡ h i) → progressAnswer n g f ≡ progressAnswer n g h
-unfolding progressAnswer
+unfolding outcome
 progress-ext zero g f h e = ap (λ (x : ℕ). record { number = 0; first = x; second = 0 }) (count-ext (blocks g) f h (e refl))
 progress-ext (suc n) g f h e = refl
 
 pub finish-ext : (n : ℕ) (g : Grid) (f h : ℕ → Bool) → (n ≡ 0 → (i : ℕ) → i < blocks g → f i ≡ h i) → finishAnswer n g f ≡ finishAnswer n g h
-unfolding finishAnswer
+unfolding outcome
 finish-ext zero g f h e = ap unmarkedAnswer (first-ext f h (g .nbpr) (g .nbpc) (λ i l. e refl i (omega arith)))
 finish-ext (suc n) g f h e = refl

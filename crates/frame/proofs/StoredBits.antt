@@ -9,16 +9,16 @@ use native.Mathlib.Omega.{arith}
 use native.Mathlib.Decide.{decLt}
 use lib.ListN.{length, drop, replicate, length-replicate}
 use Rattle.bits.specs.Bits.{bitOf, bitAt, putBits}
-use Rattle.bits.specs.Over.{over}
+use Rattle.common.specs.Over.{over}
 use Rattle.bits.proofs.Bits.{length-putBits, putBits-hit, putBits-bit}
 use Rattle.grid.specs.declared.Grid.{Grid}
 use Rattle.grid.specs.Sizes.{bandBytes, imageBytes, blockIndex, actualRows, actualColumns, byteMultiple}
 use Rattle.grid.specs.Layout.{runByte, place, Block, Sample, SampleBit}
-use Rattle.grid.proofs.SamplePlaces.{inside, apart, runs}
-use Rattle.frame.specs.Writes.{dataAt, putBlock, clearRuns, storeBy, storeBlock}
-use Rattle.frame.proofs.Loops.{iter3-hit}
+use Rattle.grid.proofs.SamplePlaces.{inside, apart, runs, run-inside}
+use Rattle.calls.specs.Writes.{dataAt, putBlock, clearRuns, storeBy, storeBlock}
+use Rattle.common.proofs.Loops.{iter3-hit}
 use Rattle.frame.proofs.ListBits.{zeros-out, zeros-keep, drop-past, drop-putBits}
-use Rattle.frame.proofs.Lengths.{put-keep, clear-keep, run-inside, length-cleared, length-clearRuns}
+use Rattle.frame.proofs.Lengths.{put-keep, clear-keep, length-cleared, length-clearRuns}
 
 -- none of n places from `at` on: before them or after them
 outside : (p at n : ℕ) → ((i : ℕ) → i < n → p ≢ at + i) → (p < at) ⊎ (at + n ≤ p)

@@ -10,24 +10,27 @@ use lib.Dec.{leb, ltb, lit<}
 use lib.ListN.{length, getD, take, length-take}
 use lib.Seq.{take-at, take-length}
 use Rattle.bits.specs.Bits.{bitOf}
-use Rattle.bits.specs.Over.{over}
+use Rattle.common.specs.Questions.{outcome}
+use Rattle.common.specs.Over.{over}
 use Rattle.bits.proofs.Bits.{bitsAt-is}
 use Rattle.grid.specs.declared.Grid.{Grid}
-use Rattle.grid.specs.Questions.{ask, every, pick}
-use Rattle.grid.specs.Widths.{ceilDiv}
+use Rattle.common.specs.Questions.{ask}
+use Rattle.common.specs.Tests.{every, pick, allBelow}
+use Rattle.common.specs.Rounding.{ceilDiv}
 use Rattle.grid.specs.Check.{Accepted}
 use Rattle.grid.specs.Sizes.{sampleBytes, imageBytes}
 use Rattle.grid.specs.Layout.{blockEnd, SampleBit}
-use Rattle.grid.proofs.Questions.{ask-inv, ask-yes}
+use Rattle.common.proofs.Questions.{ask-inv, ask-yes}
 use Rattle.grid.proofs.Accepted.{Facts, facts, grid-inv, grid-yes}
 use Rattle.grid.proofs.SamplePlaces.{ends}
-use Rattle.grid.specs.Bands.{Bands, bandCount, bandAt, allBelow, q8}
-use Rattle.frame.specs.Reads.{Window, Filled, q7, q10, sampleAt, pictureAt, bytesOf, filled, windowNumber, windowOf, window}
+use Rattle.layout.specs.Bands.{Bands, bandCount, bandAt, q8, q9}
+use Rattle.calls.specs.Orders.{Window, q7Window, q10, windowNumber}
+use Rattle.calls.specs.Reads.{Filled, sampleAt, pictureAt, bytesOf, filled, windowOf, window}
 use Rattle.frame.specs.Demand3.{SamePicture, Alike}
 use Rattle.frame.proofs.ListBits.{bitAt-take}
 use Rattle.frame.proofs.ImageNumbers.{Holding}
-use Rattle.grid.proofs.Listed.{band-lt}
-use Rattle.frame.proofs.WindowLaws.{InPicture, q10-facts, q7-at, q7-whole, sample-of, bytesOf-ext, length-bytesOf}
+use Rattle.layout.proofs.Listed.{band-lt}
+use Rattle.calls.proofs.WindowLaws.{InPicture, q10-facts, q7-at, q7-whole, sample-of, bytesOf-ext, length-bytesOf}
 
 -- ---- what a window's number 0 tells
 
@@ -40,7 +43,7 @@ pub window-facts : (g : Grid) → Facts g → (n : ℕ) (w : Window) (m : ℕ) �
 unfolding windowNumber
 window-facts g f n w m e =
     let a = ask-inv 10 (q10 g w) _ (lit< tt) (grid-inv g _ e .1) in
-    let b = ask-inv 7 (q7 g n w) _ (lit< tt) (a .1) in
+    let b = ask-inv 7 (q7Window g n w) _ (lit< tt) (a .1) in
     let c = ask-inv 8 (q8 (g .bands) (w .bands)) _ (lit< tt) (b .1) in
     let p = q10-facts g w (a .0) in
     record { picture = p; band = band-lt (g .bands) (w .bands) (c .0); end = q7-at g f n w p (b .0) }
@@ -49,14 +52,14 @@ window-facts g f n w m e =
 
 filled-ext : (n s bands rows columns : ℕ) (f h : ℕ → ℕ → ℕ → ℕ) (out : List ℕ) → (n ≡ 0 → bytesOf s bands rows columns f ≡ bytesOf s bands rows columns h)
     → filled n s bands rows columns f out ≡ filled n s bands rows columns h out
-unfolding filled
+unfolding outcome
 filled-ext zero s bands rows columns f h out e =
     λ i. record { shape = record { number = 0; bands = bands; rows = rows; columns = columns }; out = over out 0 (e refl i) }
 filled-ext (suc n) s bands rows columns f h out e = refl
 
 filled-alike : (n s bands rows columns : ℕ) (f h : ℕ → ℕ → ℕ → ℕ) (out out′ : List ℕ) → (n ≡ 0 → bytesOf s bands rows columns f ≡ bytesOf s bands rows columns h)
     → Alike (bands * rows * columns * s) (filled n s bands rows columns f out) (filled n s bands rows columns h out′)
-unfolding filled over
+unfolding outcome over
 filled-alike zero s bands rows columns f h out out′ e =
     record {
       shape = refl;
@@ -76,7 +79,7 @@ module _ (g : Grid) (f : Facts g) (image₀ image : List ℕ) (numbers : ℕ →
       bitsAt-is (take n image) _ (g .nbpp) (numbers b y x)
       (λ i hi.
       let t : SampleBit g (y / g .nppbv) (x / g .nppbh) b (y % g .nppbv) (x % g .nppbh) i = record { sample = sample-of g f b y x hb hy hx; in-i = hi } in
-      bitAt-take n image _ (omega (arith, ends g _ _ _ _ _ i t, length-take n image))
+      bitAt-take n image _ (omega (arith, ends g f _ _ _ _ _ i t, length-take n image))
       ∙ held .sample-bits _ _ b _ _ i t
       ∙ ap₂ (λ (u v : ℕ). bitOf (numbers b u v) (g .nbpp - suc i)) (div-add-mod' y (g .nppbv)) (div-add-mod' x (g .nppbh)))
       ∙ mod-eq-of-lt (held .small b y x)
@@ -99,7 +102,7 @@ window-whole g f image₀ image numbers held w out =
 
 -- on a whole image question 7 has no part in a window's number
 abbrev restNumber : Grid → Window → ℕ → ℕ
-restNumber g w m = ask 10 (q10 g w) (ask 8 (q8 (g .bands) (w .bands)) (ask 9 (leb (bandCount (g .bands) (w .bands) * w .rows * w .columns * sampleBytes g) m) 0))
+restNumber g w m = ask 10 (q10 g w) (ask 8 (q8 (g .bands) (w .bands)) (ask 9 (q9 (bandCount (g .bands) (w .bands)) (w .rows) (w .columns) (sampleBytes g) m) 0))
 
 number-whole : (g : Grid) → Accepted g → (n : ℕ) (w : Window) (m : ℕ) → imageBytes g ≤ n → windowNumber g n w m ≡ restNumber g w m
 unfolding windowNumber
@@ -124,7 +127,7 @@ module _ (g h : Grid) (sp : SamePicture g h) where
 
   same-rest : (w : Window) (m m′ : ℕ) → m ≡ m′ → restNumber g w m ≡ restNumber h w m′
   same-rest w m m′ e =
-      λ i. ask 10 (same-q10 w i) (ask 8 (same-q8 (w .bands) i) (ask 9 (leb (same-count (w .bands) i * w .rows * w .columns * same-size i) (e i)) 0))
+      λ i. ask 10 (same-q10 w i) (ask 8 (same-q8 (w .bands) i) (ask 9 (q9 (same-count (w .bands) i) (w .rows) (w .columns) (same-size i) (e i)) 0))
 
 -- the same picture, the same numbers and outputs of one length: the same answer and bytes, whatever the modes and block sizes
 pub alike : (g h : Grid) → Accepted g → Accepted h → SamePicture g h → (n n′ : ℕ) → imageBytes g ≤ n → imageBytes h ≤ n′

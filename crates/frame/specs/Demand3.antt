@@ -9,18 +9,18 @@ use Rattle.grid.specs.declared.Grid.{Grid}
 use Rattle.grid.specs.Sizes.{sampleBytes, blocks, imageBytes, blockIndex}
 use Rattle.grid.specs.Layout.{place, Block, SampleBit}
 use Rattle.marks.specs.Marks.{markWords, marked}
-use Rattle.grid.specs.Bands.{bandCount}
-use Rattle.frame.specs.Reads.{Window, Filled, window}
-use Rattle.frame.specs.Writes.{startNumber}
-use Rattle.frame.specs.Calls.{Call, Run, run, started}
-use Rattle.frame.specs.PlainFrame.{Frame, FrameRun, frame0, frameRun, frameWindow}
+use Rattle.layout.specs.Bands.{bandCount}
+use Rattle.calls.specs.Orders.{Window, startNumber}
+use Rattle.calls.specs.Reads.{Filled, window}
+use Rattle.frame.specs.Calls.{Call, Called, callAll, started}
+use Rattle.frame.specs.PlainFrame.{Frame, FrameCalled, frame0, frameCallAll, frameWindow}
 
 -- the calls after the start, and the plain frame that is fed the same
-abbrev pub after : Grid → List ℕ → List ℕ → List Call → Run
-after g image marks cs = run cs (started g image marks)
+abbrev pub after : Grid → List ℕ → List ℕ → List Call → Called
+after g image marks cs = callAll cs (started g image marks)
 
-abbrev pub plain : Grid → List ℕ → List ℕ → List Call → FrameRun
-plain g image marks cs = frameRun cs (frame0 g (length image) (length marks))
+abbrev pub plain : Grid → List ℕ → List ℕ → List Call → FrameCalled
+plain g image marks cs = frameCallAll cs (frame0 g (length image) (length marks))
 
 -- two grids with the same rows, columns, bands and NBPP, under whatever modes and block sizes
 pub record SamePicture (g h : Grid) : Type 0 where
@@ -44,13 +44,17 @@ pub record Holds (g : Grid) (image marks : List ℕ) (cs : List Call) : Type 0 w
   pub answers : after g image marks cs .answers ≡ plain g image marks cs .answers
   -- a block's mark is one exactly when the block is reached
   pub marked-reached : (row column : ℕ) → Block g row column
-      → marked (after g image marks cs .state .marks) (blockIndex g row column) ≡ plain g image marks cs .frame .reached (blockIndex g row column)
+      → marked (after g image marks cs .state .marks) (blockIndex g row column)
+      ≡ plain g image marks cs .frame .reached (blockIndex g row column)
   -- a window on the starting grid and on the image, or on its first n bytes, is refused as the plain frame refuses it,
   -- and an accepted one gives the plain frame's numbers
   pub windows : (n : ℕ) (w : Window) (out : List ℕ)
-      → window g (take n (after g image marks cs .state .image)) w out ≡ frameWindow (plain g image marks cs .frame) n w out
-  -- the layout puts each bit of an actual sample inside the image's bytes, where it is that bit of the plain frame's number
-  pub inside : (row column b r c i : ℕ) → SampleBit g row column b r c i → place g row column b r c + i < imageBytes g * 8
+      → window g (take n (after g image marks cs .state .image)) w out
+      ≡ frameWindow (plain g image marks cs .frame) n w out
+  -- the layout puts each bit of an actual sample inside the image's bytes, where it is that bit of the plain frame's
+  -- number
+  pub inside : (row column b r c i : ℕ) → SampleBit g row column b r c i
+      → place g row column b r c + i < imageBytes g * 8
   pub sample-bits : (row column b r c i : ℕ) → SampleBit g row column b r c i
       → bitAt (after g image marks cs .state .image) (place g row column b r c + i)
       ≡ bitOf (plain g image marks cs .frame .numbers b (row * g .nppbv + r) (column * g .nppbh + c)) (g .nbpp - suc i)
@@ -62,14 +66,19 @@ pub record Holds (g : Grid) (image marks : List ℕ) (cs : List Call) : Type 0 w
   pub image-length : length (after g image marks cs .state .image) ≡ length image
   pub image-surplus : drop (imageBytes g) (after g image marks cs .state .image) ≡ drop (imageBytes g) image
   pub marks-length : length (after g image marks cs .state .marks) ≡ length marks
-  pub marks-surplus : drop (markWords (blocks g)) (after g image marks cs .state .marks) ≡ drop (markWords (blocks g)) marks
-  -- two images from such lists with the same picture and sample values give the same answer and bytes to any window asked alike of both
+  pub marks-surplus : drop (markWords (blocks g)) (after g image marks cs .state .marks)
+      ≡ drop (markWords (blocks g)) marks
+  -- two images from such lists with the same picture and sample values give the same answer and bytes to any window
+  -- asked alike of both
   pub alike : (h : Grid) (image′ marks′ : List ℕ) (cs′ : List Call) → startNumber h (length image′) (length marks′) ≡ 0
       → SamePicture g h → SameNumbers g (plain g image marks cs .frame) (plain h image′ marks′ cs′ .frame)
       → (w : Window) (out out′ : List ℕ) → length out ≡ length out′
       → Alike (bandCount (g .bands) (w .bands) * w .rows * w .columns * sampleBytes g)
-      (window g (after g image marks cs .state .image) w out) (window h (after h image′ marks′ cs′ .state .image) w out′)
+      (window g (after g image marks cs .state .image) w out)
+      (window h (after h image′ marks′ cs′ .state .image) w out′)
 
 -- for every grid, buffers and list of calls after an accepted start
 abbrev pub Demand3 : Type 0
-Demand3 = (g : Grid) (image marks : List ℕ) (cs : List Call) → startNumber g (length image) (length marks) ≡ 0 → Holds g image marks cs
+Demand3 =
+    (g : Grid) (image marks : List ℕ) (cs : List Call) → startNumber g (length image) (length marks) ≡ 0
+    → Holds g image marks cs

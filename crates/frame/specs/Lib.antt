@@ -1,6 +1,4 @@
--- What the calls do, the plain frame, and demand 3.
-pub mod Reads
-pub mod Writes
+-- Lists of calls, the plain frame, and demand 3.
 pub mod Calls
 pub mod PlainFrame
 pub mod Demand3

@@ -1,8 +1,9 @@
-// The fields of MIL-STD-2500C's headers that this program needs, at the places where they stand in a file with one image
+// The fields of MIL-STD-2500C's headers that this program needs, at the places where they stand in a file with one
+// image
 // of two bands that has no corner coordinates (ICORDS), no comments (NICOM) and no look-up tables (NLUTS).
 ghost use Prim.Native.Nat.{_<_};
 use grid::Grid;
-use grid::InterleaveMode;
+use layout::InterleaveMode;
 
 const HL: usize = 354;
 

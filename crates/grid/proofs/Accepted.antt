@@ -1,22 +1,24 @@
 -- What an accepted grid gives.
 -- Assumes nothing.
-use mathlib.Core.Path.{_≡_, refl, sym, ap, _∙_}
+use mathlib.Core.Path.{_≡_, refl, sym, _∙_}
 use mathlib.Core.Bool.{Bool, true, false}
-use Prim.Native.Nat.{ℕ, zero, suc, _+_, _-_, _*_, _/_, _%_, _≤_, _<_}
+use Prim.Native.Nat.{ℕ, _+_, _-_, _*_, _≤_, _<_}
 use native.Mathlib.Omega.{arith}
-use borrow.Author.Tests.{leb-true, eqb-true}
+use borrow.Author.Tests.{leb-true, ltb-true, eqb-true}
 use native.Mathlib.Nat.{mul-le-mul-right}
 use lib.Arith.{digits-lt}
 use lib.Dec.{lit<}
+use Rattle.layout.specs.Internal.Layout.{SampleSize}
 use Rattle.grid.specs.declared.Grid.{Grid}
-use Rattle.grid.specs.Questions.{ask}
-use Rattle.grid.specs.Widths.{ceilDiv}
-use Rattle.grid.specs.Sizes.{bandBytes, blocks, imageBytes, blockIndex, actualRows, actualColumns}
-use Rattle.grid.specs.Check.{q1, q2, q3, q4, askGrid, gridNumber, Accepted}
+use Rattle.common.specs.Questions.{ask}
+use Rattle.common.specs.Rounding.{ceilDiv}
+use Rattle.grid.specs.Sizes.{sampleBytes, bandBytes, blocks, imageBytes, blockIndex, actualRows, actualColumns}
+use Rattle.grid.specs.Check.{q1, q2, q3, q4, q6, askGrid, gridNumber, Accepted}
 use Rattle.grid.specs.Layout.{Block}
-use Rattle.grid.proofs.Arith.{prod-le, part-start, ceil-pos}
-use Rattle.grid.proofs.Questions.{ask-inv, every-at, within-facts}
-use Rattle.grid.proofs.Taken.{taken-pos, taken-top}
+use Rattle.common.proofs.Arith.{prod-le, part-start, ceil-pos}
+use Rattle.common.proofs.Questions.{Before, ask-inv}
+use Rattle.common.proofs.Tests.{every-at, within-facts}
+use Rattle.grid.proofs.WidthLaws.{taken-pos, taken-top, sample-size}
 
 pub record Answered (g : Grid) : Type 0 where
   pub q1-yes : q1 g ≡ true
@@ -35,6 +37,10 @@ grid-inv g rest e =
 pub answered : (g : Grid) → Accepted g → Answered g
 unfolding gridNumber
 answered g e = grid-inv g 0 e .0
+
+pub accepted-of : (g : Grid) → Answered g → Accepted g
+unfolding gridNumber
+accepted-of g a = rw (a .q1-yes, a .q2-yes, a .q3-yes, a .q4-yes)
 
 -- an accepted grid leaves the questions after it
 pub grid-yes : (g : Grid) (rest : ℕ) → Accepted g → askGrid g rest ≡ rest
@@ -57,6 +63,15 @@ grid-no g rest ne = go (q1 g) (q2 g) (q3 g) (q4 g) ne
     go true false c d f = refl
     go false b c d f = refl
 
+pub grid-before : (g : Grid) → Before (askGrid g)
+unfolding gridNumber
+grid-before g =
+    record { refuses = λ e ne rest. e ∙ sym (grid-no g rest (λ z. ne (e ∙ z))); accepts = λ e z rest. grid-yes g rest (sym e ∙ z) }
+
+pub block-in : (g : Grid) (row column : ℕ) → q6 g row column ≡ true → Block g row column
+unfolding q6
+block-in g row column e = let q = every-at _ e in record { in-row = ltb-true _ _ (q 0); in-column = ltb-true _ _ (q 1) }
+
 -- the limits and counts in numbers
 pub record Sized (g : Grid) : Type 0 where
   pub nrows-pos : 0 < g .nrows
@@ -64,9 +79,9 @@ pub record Sized (g : Grid) : Type 0 where
   pub ncols-pos : 0 < g .ncols
   pub ncols-le : g .ncols ≤ 99_999_999
   pub nppbh-pos : 0 < g .nppbh
-  pub nppbh-le : g .nppbh ≤ 8_192
+  pub nppbh-le : g .nppbh ≤ 99_999_999
   pub nppbv-pos : 0 < g .nppbv
-  pub nppbv-le : g .nppbv ≤ 8_192
+  pub nppbv-le : g .nppbv ≤ 99_999_999
   pub bands-pos : 0 < g .bands
   pub bands-le : g .bands ≤ 99_999
   pub nbpp-pos : 0 < g .nbpp
@@ -78,8 +93,8 @@ sized g e f =
     let a = every-at _ e in
     let r = within-facts 1 99_999_999 (g .nrows) (a 0) in
     let c = within-facts 1 99_999_999 (g .ncols) (a 1) in
-    let h = within-facts 1 8_192 (g .nppbh) (a 2) in
-    let v = within-facts 1 8_192 (g .nppbv) (a 3) in
+    let h = within-facts _ _ (g .nppbh) (a 2) in
+    let v = within-facts _ _ (g .nppbv) (a 3) in
     let b = within-facts 1 99_999 (g .bands) (a 4) in
     record {
       nrows-pos = r .low;
@@ -87,9 +102,9 @@ sized g e f =
       ncols-pos = c .low;
       ncols-le = c .high;
       nppbh-pos = h .low;
-      nppbh-le = h .high;
+      nppbh-le = omega (arith, h .high);
       nppbv-pos = v .low;
-      nppbv-le = v .high;
+      nppbv-le = omega (arith, v .high);
       bands-pos = b .low;
       bands-le = b .high;
       nbpp-pos = taken-pos (g .nbpp) f;
@@ -110,6 +125,7 @@ counted g e =
 
 -- all of it
 pub record Facts (g : Grid) : Type 0 where
+  pub size : SampleSize (g .nbpp) (sampleBytes g)
   pub sides : Sized g
   pub counts : Counted g
   pub blocks-le : blocks g ≤ 99_980_001
@@ -136,6 +152,7 @@ facts g e =
     let s = sized g (a .q1-yes) (a .q2-yes) in
     let c = counted g (a .q3-yes) in
     record {
+      size = sample-size (g .nbpp) (a .q2-yes);
       sides = s;
       counts = c;
       blocks-le = blocks-top g c;
@@ -183,3 +200,8 @@ blocks-pos g f = prod-le 1 1 (g .nbpr) (g .nbpc) (across-pos g f) (down-pos g f)
 -- a block's nominal bytes are no more than the image
 pub block-le : (g : Grid) → Facts g → g .bands * bandBytes g ≤ imageBytes g
 block-le g f = omega (arith, mul-le-mul-right (g .bands * bandBytes g) (blocks-pos g f))
+
+-- and they end inside it
+pub block-end-le : (g : Grid) (row column : ℕ) → Block g row column
+    → blockIndex g row column * (g .bands * bandBytes g) + g .bands * bandBytes g ≤ imageBytes g
+block-end-le g row column t = omega (arith, mul-le-mul-right (g .bands * bandBytes g) (index-lt g row column t))

@@ -1,10 +1,6 @@
 -- The laws of `grid`.
-pub mod Questions
-pub mod Arith
 pub mod Table
-pub mod Taken
+pub mod WidthLaws
 pub mod Accepted
-pub mod Order
+pub mod BlockLayouts
 pub mod SamplePlaces
-pub mod Listed
-pub mod Even

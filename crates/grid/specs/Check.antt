@@ -1,15 +1,17 @@
--- Questions 1 to 4, which every call with a grid asks first.
+-- Questions 1 to 4, which every call with a grid asks first, and two that several calls ask of it.
 -- Assumes nothing.
 use Prim.Native.Nat.{ℕ}
 use mathlib.Core.Path.{_≡_}
 use mathlib.Core.Bool.{Bool}
 use mathlib.Core.List.{[], _∷_}
-use lib.Dec.{leb, eqb}
-use Rattle.grid.specs.Questions.{ask, every, within}
-use Rattle.grid.specs.Widths.{ceilDiv, widthTaken}
+use lib.Dec.{leb, ltb, eqb}
+use Rattle.common.specs.Questions.{ask}
+use Rattle.common.specs.Tests.{every, within}
+use Rattle.common.specs.Rounding.{ceilDiv}
+use Rattle.grid.specs.Widths.{widthTaken}
 use Rattle.grid.specs.Sizes.{imageBytes}
 use Rattle.grid.specs.declared.Grid.{Grid}
-use Rattle.grid.specs.declared.InterleaveMode.{InterleaveMode}
+use Rattle.layout.specs.declared.InterleaveMode.{InterleaveMode}
 
 -- NROWS and NCOLS are 1 to 99,999,999, NPPBH and NPPBV 1 to 8,192, bands 1 to 99,999
 unfoldable pub q1 : Grid → Bool
@@ -39,6 +41,14 @@ q3 g =
 -- the image is at most 4,294,967,294 bytes
 unfoldable pub q4 : Grid → Bool
 q4 g = leb (imageBytes g) 4_294_967_294
+
+-- 6: is the block inside the grid
+unfoldable pub q6 : Grid → ℕ → ℕ → Bool
+q6 g row column = every (ltb row (g .nbpc) ∷ ltb column (g .nbpr) ∷ [])
+
+-- 11: do n bytes hold the image
+unfoldable pub q11 : Grid → ℕ → Bool
+q11 g n = leb (imageBytes g) n
 
 -- questions 1, 2, 3, 4, then the rest
 abbrev pub askGrid : Grid → ℕ → ℕ

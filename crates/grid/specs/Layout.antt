@@ -2,46 +2,45 @@
 -- Assumes nothing.
 use Prim.Native.Nat.{ℕ, _+_, _-_, _*_, _/_, _%_, _<_}
 use mathlib.Core.Bool.{Bool, true, false}
+use Rattle.common.specs.Tests.{pick}
+use Rattle.layout.specs.declared.InterleaveMode.{InterleaveMode}
+use Rattle.layout.specs.Order.{ordinal, bandsApart}
 use Rattle.grid.specs.Sizes.{sampleBytes, bandBytes, blocks, blockIndex, actualRows, actualColumns, byteMultiple}
 use Rattle.grid.specs.declared.Grid.{Grid}
-use Rattle.grid.specs.declared.InterleaveMode.{InterleaveMode}
-use Rattle.grid.specs.declared.InterleaveMode.the-variants.{B, P, R, S}
 
--- the order of the mode: how many samples stand before sample (band b, row r, column c) among those of `bands` bands of `rows` rows of `columns` columns
-abbrev pub ordinal : InterleaveMode → ℕ → ℕ → ℕ → ℕ → ℕ → ℕ → ℕ
-ordinal B bands rows columns b r c = (b * rows + r) * columns + c
-ordinal P bands rows columns b r c = (r * columns + c) * bands + b
-ordinal R bands rows columns b r c = (r * bands + b) * columns + c
-ordinal S bands rows columns b r c = (b * rows + r) * columns + c
-
--- byte multiples: the first byte of a sample of the block at an index; in B, P and R the block starts at index × bands × t
+-- byte multiples: the first byte of a sample of the block at an index. In B, P and R the block starts at index × bands
+-- × t
 abbrev pub sampleByte : InterleaveMode → Grid → ℕ → ℕ → ℕ → ℕ → ℕ
-sampleByte B g index b r c = index * g .bands * bandBytes g + sampleBytes g * ordinal B (g .bands) (g .nppbv) (g .nppbh) b r c
-sampleByte P g index b r c = index * g .bands * bandBytes g + sampleBytes g * ordinal P (g .bands) (g .nppbv) (g .nppbh) b r c
-sampleByte R g index b r c = index * g .bands * bandBytes g + sampleBytes g * ordinal R (g .bands) (g .nppbv) (g .nppbh) b r c
-sampleByte S g index b r c = (b * blocks g + index) * bandBytes g + (r * g .nppbh + c) * sampleBytes g
+sampleByte m g index b r c =
+    pick (bandsApart m)
+    ((b * blocks g + index) * bandBytes g + (r * g .nppbh + c) * sampleBytes g)
+    (index * g .bands * bandBytes g + sampleBytes g * ordinal m (g .bands) (g .nppbv) (g .nppbh) b r c)
 
--- other widths: the first byte of run i of the block at an index
+-- a run, document 01's term at other widths: the block's actual samples stand in the order of the mode and are cut into
+-- as many runs as bands,
+-- each of actual rows × actual columns samples. This is the first byte of run i of the block at an index
 abbrev pub runByte : InterleaveMode → Grid → ℕ → ℕ → ℕ
-runByte B g index i = index * g .bands * bandBytes g + i * bandBytes g
-runByte P g index i = index * g .bands * bandBytes g + i * bandBytes g
-runByte R g index i = index * g .bands * bandBytes g + i * bandBytes g
-runByte S g index i = (i * blocks g + index) * bandBytes g
+runByte m g index i =
+    pick (bandsApart m)
+    ((i * blocks g + index) * bandBytes g)
+    (index * g .bands * bandBytes g + i * bandBytes g)
 
 -- other widths: the rows and columns of a block that its runs hold, which are the actual ones
-abbrev pub runRows : Grid → ℕ → ℕ
-runRows g row = actualRows g row
+abbrev pub packedRows : Grid → ℕ → ℕ
+packedRows g row = actualRows g row
 
-abbrev pub runColumns : Grid → ℕ → ℕ
-runColumns g column = actualColumns g column
+abbrev pub packedColumns : Grid → ℕ → ℕ
+packedColumns g column = actualColumns g column
 
--- the first bit of sample (b, r, c) of block (row, column); bits are counted from the image's first byte on, high bit first.
--- Byte multiples, where the first argument is true: the sample's first byte. Other widths: the sample's place in its run, without gaps between rows
+-- the first bit of sample (b, r, c) of block (row, column); bits are counted from the image's first byte on, high bit
+-- first.
+-- Byte multiples, where the first argument is true: the sample's first byte. Other widths: the sample's place in its
+-- run, without gaps between rows
 abbrev pub placeBy : Bool → Grid → ℕ → ℕ → ℕ → ℕ → ℕ → ℕ
 placeBy true g row column b r c = 8 * sampleByte (g .imode) g (blockIndex g row column) b r c
 placeBy false g row column b r c =
-    let v : ℕ = runRows g row in
-    let h : ℕ = runColumns g column in
+    let v : ℕ = packedRows g row in
+    let h : ℕ = packedColumns g column in
     let n : ℕ = ordinal (g .imode) (g .bands) v h b r c in
     8 * runByte (g .imode) g (blockIndex g row column) (n / (v * h)) + n % (v * h) * g .nbpp
 
@@ -49,10 +48,12 @@ placeBy false g row column b r c =
 unfoldable pub place : Grid → ℕ → ℕ → ℕ → ℕ → ℕ → ℕ
 place g row column b r c = placeBy (byteMultiple g) g row column b r c
 
--- question 7 of block (row, column): the end of its last actual sample, or for non-byte widths the end of its last run's t bytes
+-- question 7 of block (row, column): the end of its last actual sample, or for non-byte widths the end of its last
+-- run's t bytes
 abbrev pub blockEndBy : Bool → Grid → ℕ → ℕ → ℕ
 blockEndBy true g row column =
-    sampleByte (g .imode) g (blockIndex g row column) (g .bands - 1) (actualRows g row - 1) (actualColumns g column - 1) + sampleBytes g
+    sampleByte (g .imode) g (blockIndex g row column) (g .bands - 1) (actualRows g row - 1) (actualColumns g column - 1)
+    + sampleBytes g
 blockEndBy false g row column = runByte (g .imode) g (blockIndex g row column) (g .bands - 1) + bandBytes g
 
 -- where the data of a block ends
@@ -75,3 +76,10 @@ pub record Sample (g : Grid) (row column b r c : ℕ) : Type 0 where
 pub record SampleBit (g : Grid) (row column b r c i : ℕ) : Type 0 where
   pub sample : Sample g row column b r c
   pub in-i : i < g .nbpp
+
+-- the whole nominal block in the image: its first byte and its length; nothing, at 0, in S, where its bands lie apart
+unfoldable pub wholeStart : Grid → ℕ → ℕ → ℕ
+wholeStart g row column = pick (bandsApart (g .imode)) 0 (blockIndex g row column * (g .bands * bandBytes g))
+
+unfoldable pub wholeLength : Grid → ℕ
+wholeLength g = pick (bandsApart (g .imode)) 0 (g .bands * bandBytes g)

@@ -1,9 +1,6 @@
 -- The definitions of `grid`.
-pub mod Questions
 pub mod Widths
 pub mod Sizes
 pub mod Check
 pub mod Layout
-pub mod Slots
-pub mod Bands
-pub mod Strides
+pub mod Internal

@@ -1,9 +1,10 @@
--- Sizes of a grid. Fields have MIL-STD-2500C's names: a block has NPPBV rows and NPPBH columns, NBPR blocks stand across and NBPC down.
+-- Sizes of a grid. Fields have MIL-STD-2500C's names: a block has NPPBV rows and NPPBH columns, NBPR blocks stand
+-- across and NBPC down.
 -- Assumes nothing.
-use Prim.Native.Nat.{ℕ, _+_, _-_, _*_, _/_, _%_, min}
+use Prim.Native.Nat.{ℕ, _+_, _-_, _*_, _%_, min}
 use mathlib.Core.Bool.{Bool}
 use lib.Dec.{eqb}
-use Rattle.grid.specs.Widths.{ceilDiv}
+use Rattle.common.specs.Rounding.{ceilDiv}
 use Rattle.grid.specs.declared.Grid.{Grid}
 
 -- s: the bytes of a sample in lent data

@@ -1,14 +1,11 @@
 -- Question 2: the widths that are taken, and the bytes of a sample.
 -- Assumes nothing.
-use Prim.Native.Nat.{ℕ, _+_, _-_, _/_}
+use Prim.Native.Nat.{ℕ}
 use mathlib.Core.Bool.{Bool}
 use mathlib.Core.List.{[], _∷_}
 use lib.Dec.{eqb}
-use Rattle.grid.specs.Questions.{within, some, pick}
-
--- a / b, rounded up
-abbrev pub ceilDiv : ℕ → ℕ → ℕ
-ceilDiv a b = (a + (b - 1)) / b
+use Rattle.common.specs.Rounding.{ceilDiv}
+use Rattle.common.specs.Tests.{within, some, pick}
 
 -- NBPP is 1 to 16, 24 to 32, 40, 48, 56 or 64
 unfoldable pub widthTaken : ℕ → Bool

@@ -1,32 +1,12 @@
 // Questions 1 to 4.
 ghost use mathlib.Core.Path.{_≡_};
 ghost use mathlib.Core.Bool.{true};
-ghost use Rattle.grid.specs.Questions.{within as isWithin};
-ghost use Rattle.grid.specs.Widths.{ceilDiv};
-ghost use Rattle.grid.specs.Check.{q1, q2, q3, q4, gridNumber, gridOf};
+ghost use Rattle.grid.specs.Check.{q1, q2, q3, q4, q6, q11, gridNumber, Accepted, gridOf};
 use crate::Grid;
-use crate::InterleaveMode;
 use crate::widths::width_bytes;
-
-fn within(lo: u32, hi: u32, x: u32) -> bool
-    ensures { λ r. ⌜ r ≡ isWithin lo hi x ⌝ }
-{
-    if x < lo {
-        return false;
-    }
-    x <= hi
-}
-
-// a / b, rounded up; 0 where b is 0.
-fn ceil_div(a: u32, b: u32) -> u32
-    ensures { λ r. ⌜ r ≡ ceilDiv a b ⌝ }
-{
-    if b == 0 {
-        return 0;
-    }
-    let wide = a as u64 + (b as u64 - 1);
-    (wide / b as u64) as u32
-}
+use common::ceil_div;
+use common::within;
+use layout::InterleaveMode;
 
 impl Grid {
     pub const MAX_PICTURE_SIDE: u32 = 99_999_999;
@@ -114,11 +94,29 @@ impl Grid {
         requires { ⌜ (q1 self ≡ true) × (q2 self ≡ true) × (q3 self ≡ true) ⌝ }
         ensures { λ r. ⌜ r ≡ q4 self ⌝ }
     {
-        let t = self.nominal_bytes() as u64;
+        let t = self.band_bytes_of_sides() as u64;
         let across = self.nbpr as u64;
         let down = self.nbpc as u64;
         let bands = self.bands as u64;
         across * down * bands <= Self::MAX_IMAGE_BYTES / t
+    }
+
+    // Question 6: is the block inside the grid?
+    pub fn has_block(self, row: u32, column: u32) -> bool
+        ensures { λ r. ⌜ r ≡ q6 self row column ⌝ }
+    {
+        if row >= self.nbpc {
+            return false;
+        }
+        column < self.nbpr
+    }
+
+    // Question 11: do so many bytes hold the image?
+    pub fn fits_in(self, bytes: usize) -> bool
+        requires { ⌜ Accepted self ⌝ }
+        ensures { λ r. ⌜ r ≡ q11 self bytes ⌝ }
+    {
+        self.image_bytes() <= bytes
     }
 
     // The number of the first "no" of questions 1 to 4, or 0.

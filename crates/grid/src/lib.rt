@@ -1,24 +1,12 @@
 // The grid of a picture: MIL-STD-2500C's fields, their limits, sizes, and where a sample lies.
 ghost use mathlib.Core.Path.{_≡_};
 
-pub mod bands;
 mod check;
-mod places;
+pub mod places;
 mod sizes;
-mod spacing;
 mod widths;
 
-// IMODE: how the bands of a picture are interleaved.
-pub enum InterleaveMode {
-    // Band interleaved by block.
-    B,
-    // Band interleaved by pixel.
-    P,
-    // Band interleaved by row.
-    R,
-    // Band sequential.
-    S,
-}
+use layout::InterleaveMode;
 
 // What a call is told of a picture.
 pub struct Grid {
@@ -35,11 +23,4 @@ pub struct Grid {
     // Blocks across and down.
     pub nbpr: u32,
     pub nbpc: u32,
-}
-
-// Bits from a band, a row and a column to the next.
-pub struct Strides {
-    pub band: usize,
-    pub row: usize,
-    pub column: usize,
 }

@@ -1,75 +1,47 @@
-// Where a sample lies, by one formula for every mode and width: its block's samples stand in the order of the mode,
-// cut into runs of as many samples as a band has, and each run has a slot of t bytes.
+// Where a block and a sample lie in the image.
 ghost use mathlib.Core.Path.{_≡_};
-ghost use Prim.Native.Nat.{_+_, _*_, _<_, _≤_, _^_};
-ghost use Rattle.grid.specs.Sizes.{blocks as blockCount, byteMultiple};
 ghost use Rattle.grid.specs.Check.{Accepted};
-ghost use Rattle.grid.specs.Layout.{ordinal, place, blockEnd, Block, Sample};
-ghost use Rattle.grid.specs.Slots.{sideV, sideH, slot};
+ghost use Rattle.grid.specs.Layout.{place, blockEnd, Block, Sample};
+ghost use Rattle.grid.specs.Internal.BlockLayouts.{layoutOf, wholeSpan};
 use crate::Grid;
-use crate::InterleaveMode;
+use common::pick;
+use layout::BlockLayout;
+use layout::bands_apart;
 
-// a groups of m, and c more.
-fn digit(a: usize, m: usize, c: usize) -> usize
-    requires { ⌜ a * m + c < 2 ^ 64 ⌝ }
-    ensures { λ r. ⌜ r ≡ a * m + c ⌝ }
-{
-    a * m + c
+// A part of the image, in bytes.
+pub struct Span {
+    pub start: usize,
+    pub length: usize,
 }
 
 impl Grid {
-    // Rows of a block that its runs hold: all at byte multiples, else the actual ones.
-    pub fn run_rows(self, row: usize) -> usize
+    // The layout of block (row, column) of the image.
+    pub fn block_layout(self, row: usize, column: usize) -> BlockLayout
         requires { ⌜ Accepted self ⌝ }
-        requires { ⌜ row < self .nbpc ⌝ }
-        ensures { λ r. ⌜ r ≡ sideV (byteMultiple self) self row ⌝ }
+        requires { ⌜ Block self row column ⌝ }
+        ensures { λ l. ⌜ l ≡ layoutOf self row column ⌝ }
     {
-        if self.is_byte_multiple() {
-            self.nppbv as usize
-        } else {
-            self.actual_rows(row)
-        }
-    }
-
-    // Columns of a block that its runs hold.
-    pub fn run_columns(self, column: usize) -> usize
-        requires { ⌜ Accepted self ⌝ }
-        requires { ⌜ column < self .nbpr ⌝ }
-        ensures { λ r. ⌜ r ≡ sideH (byteMultiple self) self column ⌝ }
-    {
-        if self.is_byte_multiple() {
-            self.nppbh as usize
-        } else {
-            self.actual_columns(column)
-        }
-    }
-
-    // How many samples stand before sample (b, r, c) in the order of the mode.
-    pub fn sample_ordinal(self, rows: usize, columns: usize, b: usize, r: usize, c: usize) -> usize
-        requires { ⌜ (b < self .bands) × (r < rows) × (c < columns) ⌝ }
-        requires { ⌜ self .bands * (rows * columns) < 2 ^ 64 ⌝ }
-        ensures { λ n. ⌜ n ≡ ordinal (self .imode) (self .bands) rows columns b r c ⌝ }
-    {
-        let bands = self.bands as usize;
-        let m = self.imode;
-        match m {
-            InterleaveMode::P => digit(digit(r, columns, c), bands, b),
-            InterleaveMode::R => digit(digit(r, bands, b), columns, c),
-            _ => digit(digit(b, rows, r), columns, c),
-        }
-    }
-
-    // The slot of run `run` of the block at an index.
-    pub fn run_slot(self, index: usize, run: usize) -> usize
-        requires { ⌜ Accepted self ⌝ }
-        requires { ⌜ (index < blockCount self) × (run < self .bands) ⌝ }
-        ensures { λ r. ⌜ r ≡ slot (self .imode) self index run ⌝ }
-    {
-        let bands = self.bands as usize;
-        let m = self.imode;
-        match m {
-            InterleaveMode::S => digit(run, self.blocks(), index),
-            _ => digit(index, bands, run),
+        let t = self.band_bytes();
+        let mode = self.imode;
+        let apart = bands_apart(mode);
+        let whole = self.is_byte_multiple();
+        let rows = self.actual_rows(row);
+        let columns = self.actual_columns(column);
+        let first = self.block_index(row, column) * pick(apart, t, self.block_bytes());
+        let next = pick(apart, self.blocks() * t, t);
+        let run_rows = pick(whole, self.nppbv as usize, rows);
+        let run_columns = pick(whole, self.nppbh as usize, columns);
+        BlockLayout {
+            first,
+            apart: next,
+            run_bytes: t,
+            rows,
+            columns,
+            run_rows,
+            run_columns,
+            mode,
+            bands: self.bands,
+            nbpp: self.nbpp,
         }
     }
 
@@ -79,13 +51,7 @@ impl Grid {
         requires { ⌜ Sample self row column b r c ⌝ }
         ensures { λ p. ⌜ p ≡ place self row column b r c ⌝ }
     {
-        let rows = self.run_rows(row);
-        let columns = self.run_columns(column);
-        let n = self.sample_ordinal(rows, columns, b, r, c);
-        let size = rows * columns;
-        let slot = self.run_slot(self.block_index(row, column), n / size);
-        let bits = self.nbpp as usize;
-        digit(slot, self.band_bytes() * 8, n % size * bits)
+        self.block_layout(row, column).sample_place(b, r, c)
     }
 
     // Question 7: the end of a block's last actual sample, or at other widths of its last run.
@@ -94,14 +60,21 @@ impl Grid {
         requires { ⌜ Block self row column ⌝ }
         ensures { λ r. ⌜ r ≡ blockEnd self row column ⌝ }
     {
-        let last = self.bands as usize - 1;
-        if self.is_byte_multiple() {
-            let r = self.actual_rows(row) - 1;
-            let c = self.actual_columns(column) - 1;
-            self.sample_place(row, column, last, r, c) / 8 + self.sample_bytes()
-        } else {
-            let slot = self.run_slot(self.block_index(row, column), last);
-            (slot + 1) * self.band_bytes()
+        self.block_layout(row, column).end()
+    }
+
+    // The whole nominal block in the image; nothing, at 0, in S, where its bands lie apart.
+    pub fn whole_block(self, row: usize, column: usize) -> Span
+        requires { ⌜ Accepted self ⌝ }
+        requires { ⌜ Block self row column ⌝ }
+        ensures { λ r. ⌜ r ≡ wholeSpan self row column ⌝ }
+    {
+        let mode = self.imode;
+        let apart = bands_apart(mode);
+        let size = self.block_bytes();
+        Span {
+            start: pick(apart, 0, self.block_index(row, column) * size),
+            length: pick(apart, 0, size),
         }
     }
 }

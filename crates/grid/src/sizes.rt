@@ -2,7 +2,8 @@
 ghost use mathlib.Core.Path.{_≡_};
 ghost use mathlib.Core.Bool.{true};
 ghost use Prim.Native.Nat.{_-_, _*_, _<_, min};
-ghost use Rattle.grid.specs.Sizes.{sampleBytes, bandBytes, blocks as blockCount, imageBytes, blockIndex, actualRows, actualColumns, byteMultiple};
+ghost use Rattle.grid.specs.Sizes.{sampleBytes, bandBytes, blocks as blockCount, imageBytes, blockIndex};
+ghost use Rattle.grid.specs.Sizes.{actualRows, actualColumns, byteMultiple};
 ghost use Rattle.grid.specs.Check.{q1, q2, Accepted};
 ghost use Rattle.grid.specs.Layout.{Block};
 use crate::Grid;
@@ -38,11 +39,11 @@ impl Grid {
         requires { ⌜ Accepted self ⌝ }
         ensures { λ r. ⌜ r ≡ bandBytes self ⌝ }
     {
-        self.nominal_bytes()
+        self.band_bytes_of_sides()
     }
 
     // The same where questions 3 and 4 are still to be asked.
-    pub fn nominal_bytes(self) -> usize
+    pub fn band_bytes_of_sides(self) -> usize
         requires { ⌜ (q1 self ≡ true) × (q2 self ≡ true) ⌝ }
         ensures { λ r. ⌜ r ≡ bandBytes self ⌝ }
     {

@@ -6,10 +6,11 @@ use mathlib.Core.Bool.{true}
 use native.Mathlib.Omega.{arith}
 use lib.Dec.{lit<}
 use borrow.Author.Tests.{leb-true, eqb-true}
-use Rattle.grid.specs.Questions.{pick}
-use Rattle.grid.specs.Bands.{Bands, bandCount, q8}
-use Rattle.grid.proofs.Questions.{ask-inv, within-facts}
-use Rattle.grid.proofs.Listed.{band-lt}
+use Rattle.common.specs.Tests.{pick}
+use Rattle.layout.specs.Bands.{Bands, bandCount, q8, q9}
+use Rattle.common.proofs.Questions.{ask-inv}
+use Rattle.common.proofs.Tests.{within-facts}
+use Rattle.layout.proofs.Listed.{band-lt}
 use Rattle.interleave.specs.Interleave.{everyBand, reorderNumber}
 
 -- data of n bytes and an output of m
@@ -22,7 +23,7 @@ pub record Accepted (bs : Bands) (rows columns bands s n m : ℕ) : Type 0 where
   pub room : bandCount bands bs * rows * columns * s ≤ m
 
 pub accepted : (bs : Bands) (rows columns bands s n m : ℕ) → reorderNumber bs rows columns bands s n m ≡ 0 → Accepted bs rows columns bands s n m
-unfolding reorderNumber
+unfolding reorderNumber q9
 accepted bs rows columns bands s n m e =
     let a = ask-inv 2 _ _ (lit< tt) e in
     let b = ask-inv 4 _ _ (lit< tt) (a .1) in

@@ -8,16 +8,16 @@ use native.Mathlib.Omega.{arith}
 use native.Mathlib.Nat.{div-add-mod', mod-lt, div-lt-iff-lt-mul}
 use lib.ListN.{length, getD}
 use Rattle.bits.specs.Bits.{Bytes, beAt}
-use Rattle.samples.specs.Samples.{values}
-use Rattle.samples.proofs.Samples.{values-ext, beAt-values}
-use Rattle.grid.specs.declared.InterleaveMode.{InterleaveMode}
-use Rattle.grid.specs.declared.InterleaveMode.the-variants.{S}
-use Rattle.grid.specs.Questions.{pick}
-use Rattle.grid.specs.Bands.{bandsOf, bandCount, bandAt, q8}
-use Rattle.grid.proofs.Order.{Same3, ordinal-lt}
-use Rattle.interleave.specs.Interleave.{bandOf, rowOf, columnOf, sourceOf, reorderNumber, reorderBy, reorder, everyBand}
+use Rattle.bits.specs.Values.{values}
+use Rattle.bits.proofs.Values.{values-ext, beAt-values}
+use Rattle.layout.specs.declared.InterleaveMode.{InterleaveMode}
+use Rattle.layout.specs.declared.InterleaveMode.the-variants.{S}
+use Rattle.common.specs.Tests.{pick}
+use Rattle.layout.specs.Bands.{bandsOf, bandCount, bandAt, q8}
+use Rattle.layout.proofs.Order.{Same3, ordinal-lt}
+use Rattle.interleave.specs.Interleave.{bandOf, rowOf, columnOf, sourceOf, reorderNumber, reorderedBytes, reorder, everyBand}
 use Rattle.interleave.proofs.Coordinates.{coordinates, coordinates-of, positive}
-use Rattle.interleave.proofs.Moved.{beAt-lt}
+use Rattle.interleave.proofs.KnownSamples.{beAt-lt}
 use Rattle.interleave.proofs.Answers.{samples-of}
 
 -- ---- there and back
@@ -36,10 +36,10 @@ module _ (m to : InterleaveMode) (bands rows columns : ℕ) where
       let e = coordinates-of m bands rows columns _ _ _ (a .in-b) (a .in-r) (a .in-c) in
       rw (e .eq-b, e .eq-r, e .eq-c) (a .there)
 
--- from one order to another and back
+-- from one order to another and back; so `to_band_sequential` makes the data again of what `from_band_sequential` made of it
 pub there-and-back : (m to : InterleaveMode) (bands rows columns s : ℕ) (dat : List ℕ) → Bytes dat → length dat ≡ bands * rows * columns * s
-    → values (λ n. beAt (values (λ k. beAt dat (sourceOf m to everyBand bands rows columns k * s) s) s (bands * rows * columns)) (sourceOf to m everyBand bands rows columns n * s) s) s (bands * rows * columns)
-    ≡ dat
+    → reorderedBytes to m everyBand rows columns bands s (reorderedBytes m to everyBand rows columns bands s dat) ≡ dat
+unfolding bandCount pick
 there-and-back m to bands rows columns s dat b e =
     let N : ℕ = bands * rows * columns in
     let v : ℕ → ℕ = λ k. beAt dat (sourceOf m to everyBand bands rows columns k * s) s in
@@ -49,35 +49,18 @@ there-and-back m to bands rows columns s dat b e =
     ∙ ap (λ (i : ℕ). beAt dat (i * s) s) (source-back to m bands rows columns n h))
     ∙ samples-of s N dat b e
 
--- what `from_band_sequential` made of the data, `to_band_sequential` makes the data again
-pub to-after-from : (m : InterleaveMode) (bands rows columns s : ℕ) (dat : List ℕ) → Bytes dat → length dat ≡ bands * rows * columns * s
-    → values (λ n. beAt (values (λ k. beAt dat (sourceOf S m everyBand bands rows columns k * s) s) s (bands * rows * columns)) (sourceOf m S everyBand bands rows columns n * s) s) s (bands * rows * columns)
-    ≡ dat
-to-after-from m = there-and-back S m
-
--- and the other way round
-pub from-after-to : (m : InterleaveMode) (bands rows columns s : ℕ) (dat : List ℕ) → Bytes dat → length dat ≡ bands * rows * columns * s
-    → values (λ n. beAt (values (λ k. beAt dat (sourceOf m S everyBand bands rows columns k * s) s) s (bands * rows * columns)) (sourceOf S m everyBand bands rows columns n * s) s) s (bands * rows * columns)
-    ≡ dat
-from-after-to m = there-and-back m S
-
 -- ---- bands asked for
-
-all-by : (k : ℕ) (m to : InterleaveMode) (l : List ℕ) (rows columns bands s : ℕ) (dat out : List ℕ)
-    → reorderBy k m to (bandsOf true l) rows columns bands s dat out ≡ reorderBy k m to everyBand rows columns bands s dat out
-unfolding reorderBy sourceOf bandCount bandAt pick
-all-by zero m to l rows columns bands s dat out = refl
-all-by (suc k) m to l rows columns bands s dat out = refl
 
 -- "all" looks at no list: so `fused_bip_to_bsq` with "all" is `to_band_sequential` out of P
 pub all-is-whole : (m to : InterleaveMode) (l : List ℕ) (rows columns bands s : ℕ) (dat out : List ℕ)
     → reorder m to (bandsOf true l) rows columns bands s dat out ≡ reorder m to everyBand rows columns bands s dat out
-unfolding reorder reorderNumber q8 bandCount pick
-all-is-whole m to l rows columns bands s dat out = all-by (reorderNumber everyBand rows columns bands s (length dat) (length out)) m to l rows columns bands s dat out
+unfolding reorder reorderNumber q8 sourceOf bandCount bandAt pick
+all-is-whole m to l rows columns bands s dat out = refl
 
 -- place i of plane b
 in-plane : (b rows columns i : ℕ) → i < rows * columns
-    → Same3 (bandOf S (suc b) rows columns (b * (rows * columns) + i)) (rowOf S (suc b) rows columns (b * (rows * columns) + i)) (columnOf S (suc b) rows columns (b * (rows * columns) + i)) b (i / columns) (i % columns)
+    → let n = b * (rows * columns) + i in
+    Same3 (bandOf S (suc b) rows columns n) (rowOf S (suc b) rows columns n) (columnOf S (suc b) rows columns n) b (i / columns) (i % columns)
 in-plane b rows columns i h =
     let z = positive 1 rows columns i (omega arith) in
     let e : (b * rows + i / columns) * columns + i % columns ≡ b * (rows * columns) + i = omega (arith, div-add-mod' i columns) in

@@ -1,7 +1,7 @@
 -- The laws of `interleave`.
 pub mod Coordinates
-pub mod Moved
+pub mod KnownSamples
 pub mod Accepted
 pub mod Answers
 pub mod Laws
-pub mod Turns
+pub mod OrderPlaces

@@ -1,2 +1,3 @@
 -- Reorderings.
 pub mod Interleave
+pub mod Internal

@@ -2,32 +2,23 @@
 ghost use mathlib.Core.Path.{_≡_};
 ghost use Prim.Native.Nat.{_*_, _^_, _<_};
 ghost use lib.Dec.{leb, eqb};
-ghost use Rattle.grid.specs.Bands.{bandsOf};
+ghost use Rattle.layout.specs.Bands.{bandsOf};
 ghost use Rattle.interleave.specs.Interleave.{reorderNumber};
+use common::product_fits;
 use grid::Grid;
-use grid::bands::band_count;
-use grid::bands::bands_below;
+use layout::bands::band_count;
+use layout::bands::bands_below;
 
 // The sides of a block, its bands, and the bytes of a sample.
-pub struct Shape {
+pub struct Counts {
     pub rows: u32,
     pub columns: u32,
     pub bands: u32,
     pub size: usize,
 }
 
-// Is the product at most `most`? It is held against a quotient, so that it cannot wrap.
-fn product_fits(n: usize, m: usize, most: usize) -> bool
-    ensures { λ r. ⌜ r ≡ leb (n * m) most ⌝ }
-{
-    if m == 0 {
-        return true;
-    }
-    n <= most / m
-}
-
 // Have `count` bands no samples?
-pub fn is_empty(count: usize, shape: Shape) -> bool
+pub fn is_empty(count: usize, shape: Counts) -> bool
     ensures { λ r. ⌜ r ≡ eqb (count * shape .rows * shape .columns) 0 ⌝ }
 {
     if count == 0 {
@@ -37,7 +28,7 @@ pub fn is_empty(count: usize, shape: Shape) -> bool
 }
 
 // The bytes of `count` bands. No bands are no bytes, however large a band is.
-pub fn output_bytes(count: usize, shape: Shape) -> usize
+pub fn output_bytes(count: usize, shape: Counts) -> usize
     requires { ⌜ count * shape .rows * shape .columns * shape .size < 2 ^ 64 ⌝ }
     ensures { λ r. ⌜ r ≡ count * shape .rows * shape .columns * shape .size ⌝ }
 {
@@ -48,8 +39,9 @@ pub fn output_bytes(count: usize, shape: Shape) -> usize
 }
 
 // The number of the first "no" of a reordering's questions, or 0.
-pub fn reorder_number(shape: Shape, data: usize, all: bool, list: &[u32], room: usize) -> u32
-    ensures { λ r. ⌜ r ≡ reorderNumber (bandsOf all (now (list .entry))) (shape .rows) (shape .columns) (shape .bands) (shape .size) «data» room ⌝ }
+pub fn reorder_number(shape: Counts, data: usize, all: bool, list: &[u32], room: usize) -> u32
+    ensures { λ r. ⌜ r ≡ reorderNumber (bandsOf all (now (list .entry))) (shape .rows) (shape .columns) (shape .bands)
+        (shape .size) «data» room ⌝ }
 {
     let size = shape.size;
     if size < 1 {

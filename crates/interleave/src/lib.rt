@@ -1,22 +1,19 @@
 // Reorderings of a block's samples between the orders of the interleave modes. Samples stay big-endian.
 ghost use mathlib.Core.Path.{_≡_};
-ghost use Rattle.grid.specs.declared.InterleaveMode.the-variants.{P, S};
-ghost use Rattle.grid.specs.Bands.{bandsOf};
-ghost use Rattle.interleave.specs.Interleave.{everyBand, byBand, refusal, reorder, ReorderedOut};
-use grid::InterleaveMode;
-use grid::bands::band_count;
+ghost use Rattle.layout.specs.declared.InterleaveMode.the-variants.{P, S};
+ghost use Rattle.layout.specs.Bands.{bandsOf};
+ghost use Rattle.interleave.specs.Interleave.{everyBand, refusal, reorder, reorderedWith};
+use layout::InterleaveMode;
+use layout::bands::band_count;
 
 mod check;
-mod gather;
-mod scatter;
-mod steps;
+mod planes;
 
-use crate::check::Shape;
+use crate::check::Counts;
 use crate::check::output_bytes;
 use crate::check::reorder_number;
-use crate::gather::gather_planes;
-use crate::scatter::scatter_planes;
-use samples::bytes::copy;
+use crate::planes::from_planes;
+use crate::planes::to_planes;
 
 // What a reordering answers: the number, the bands of the output and its bytes; zeros beside a refusal.
 #[repr(C)]
@@ -37,20 +34,6 @@ fn refused(number: u32) -> Reordered
     }
 }
 
-// Does the order of a mode put band after band? With one band every mode does.
-fn is_by_band(mode: InterleaveMode, nbands: u32) -> bool
-    ensures { λ r. ⌜ r ≡ byBand mode nbands ⌝ }
-{
-    if nbands == 1 {
-        return true;
-    }
-    match mode {
-        InterleaveMode::P => false,
-        InterleaveMode::R => false,
-        _ => true,
-    }
-}
-
 // The samples of `data`, which stand in the order of a mode, in band-sequential order.
 pub fn to_band_sequential(
     data: &[u8],
@@ -61,10 +44,12 @@ pub fn to_band_sequential(
     bytes_per_pixel: usize,
     out: &mut [u8],
 ) -> Reordered
-    ensures { λ r. ⌜ _≡_ {A = ReorderedOut} (record { answer = r; out = now (out .exit) }) (reorder «from_mode» S everyBand nrows ncols nbands «bytes_per_pixel» (now («data» .entry)) (now (out .entry))) ⌝ }
+    ensures { λ r. ⌜ reorderedWith r (now (out .exit))
+        ≡ reorder «from_mode» S everyBand nrows ncols nbands «bytes_per_pixel»
+        (now («data» .entry)) (now (out .entry)) ⌝ }
 {
     let list: [u32; 0] = [];
-    let shape = Shape {
+    let shape = Counts {
         rows: nrows,
         columns: ncols,
         bands: nbands,
@@ -74,11 +59,7 @@ pub fn to_band_sequential(
     if number != 0 {
         return refused(number);
     }
-    if is_by_band(from_mode, nbands) {
-        copy(data, 0, data.len(), out, 0);
-    } else {
-        gather_planes(data, from_mode, shape, true, &list, out);
-    }
+    to_planes(data, from_mode, shape, true, &list, out);
     Reordered {
         number: 0,
         bands: nbands as usize,
@@ -96,10 +77,12 @@ pub fn from_band_sequential(
     bytes_per_pixel: usize,
     out: &mut [u8],
 ) -> Reordered
-    ensures { λ r. ⌜ _≡_ {A = ReorderedOut} (record { answer = r; out = now (out .exit) }) (reorder S «to_mode» everyBand nrows ncols nbands «bytes_per_pixel» (now («data» .entry)) (now (out .entry))) ⌝ }
+    ensures { λ r. ⌜ reorderedWith r (now (out .exit))
+        ≡ reorder S «to_mode» everyBand nrows ncols nbands «bytes_per_pixel»
+        (now («data» .entry)) (now (out .entry)) ⌝ }
 {
     let list: [u32; 0] = [];
-    let shape = Shape {
+    let shape = Counts {
         rows: nrows,
         columns: ncols,
         bands: nbands,
@@ -109,11 +92,7 @@ pub fn from_band_sequential(
     if number != 0 {
         return refused(number);
     }
-    if is_by_band(to_mode, nbands) {
-        copy(data, 0, data.len(), out, 0);
-    } else {
-        scatter_planes(data, to_mode, shape, out);
-    }
+    from_planes(data, to_mode, shape, out);
     Reordered {
         number: 0,
         bands: nbands as usize,
@@ -132,9 +111,11 @@ pub fn fused_bip_to_bsq(
     bands: &[u32],
     out: &mut [u8],
 ) -> Reordered
-    ensures { λ r. ⌜ _≡_ {A = ReorderedOut} (record { answer = r; out = now (out .exit) }) (reorder P S (bandsOf all (now (bands .entry))) nrows ncols nbands «bytes_per_pixel» (now («data» .entry)) (now (out .entry))) ⌝ }
+    ensures { λ r. ⌜ reorderedWith r (now (out .exit))
+        ≡ reorder P S (bandsOf all (now (bands .entry))) nrows ncols nbands «bytes_per_pixel»
+        (now («data» .entry)) (now (out .entry)) ⌝ }
 {
-    let shape = Shape {
+    let shape = Counts {
         rows: nrows,
         columns: ncols,
         bands: nbands,
@@ -144,7 +125,7 @@ pub fn fused_bip_to_bsq(
     if number != 0 {
         return refused(number);
     }
-    gather_planes(data, InterleaveMode::P, shape, all, bands, out);
+    to_planes(data, InterleaveMode::P, shape, all, bands, out);
     let count = band_count(nbands, all, bands);
     Reordered {
         number: 0,

@@ -1,6 +1,6 @@
 // Grids at every limit of questions 1 to 4, and the figures without a letter: prints what the check answers.
 use grid::Grid;
-use grid::InterleaveMode;
+use layout::InterleaveMode;
 
 const OUT: i32 = 1;
 

@@ -13,7 +13,7 @@ use lib.ListN.{length, getD, set, take, replicate, length-set, length-replicate,
 use lib.Seq.{getD-set-same, getD-set-other, set-out, getD-take}
 use Rattle.bits.specs.Bits.{bitOf, withBit}
 use Rattle.bits.proofs.Bits.{withBit-same, withBit-other}
-use Rattle.grid.specs.Questions.{pick}
+use Rattle.common.specs.Tests.{pick}
 use Rattle.marks.specs.declared.FirstUnmarked.{FirstUnmarked}
 use Rattle.marks.specs.declared.FirstUnmarked.the-variants.{None, Block}
 use Rattle.marks.specs.Marks.{marked, mark, oneIf, count, firstFrom, firstNot}

@@ -4,17 +4,21 @@ use Prim.Native.Nat.{ℕ, zero, suc, _+_, _*_, _/_, _%_, _<_}
 use mathlib.Core.Path.{_≡_}
 use mathlib.Core.Bool.{Bool, true, false}
 use mathlib.Core.List.{List}
-use lib.Dec.{eqb}
+use lib.Dec.{leb, eqb}
 use lib.ListN.{getD, set}
 use Rattle.bits.specs.Bits.{bitOf, withBit}
-use Rattle.grid.specs.Questions.{pick}
-use Rattle.grid.specs.Widths.{ceilDiv}
+use Rattle.common.specs.Tests.{pick}
+use Rattle.common.specs.Rounding.{ceilDiv}
 use Rattle.marks.specs.declared.FirstUnmarked.{FirstUnmarked}
 use Rattle.marks.specs.declared.FirstUnmarked.the-variants.{None, Block}
 
 -- the words that hold n marks
 abbrev pub markWords : ℕ → ℕ
 markWords n = ceilDiv n 64
+
+-- question 12: are there words for n marks
+unfoldable pub q12 : ℕ → ℕ → Bool
+q12 n words = leb (markWords n) words
 
 -- is mark i one
 unfoldable pub marked : List ℕ → ℕ → Bool

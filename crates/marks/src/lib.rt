@@ -2,7 +2,7 @@
 ghost use mathlib.Core.Path.{_≡_};
 ghost use Prim.Native.Nat.{_+_, _*_, _/_, _<_, _≤_, _^_};
 ghost use lib.ListN.{length};
-ghost use Rattle.marks.specs.Marks.{markWords, marked, mark, count, firstNot, AllMarked};
+ghost use Rattle.marks.specs.Marks.{markWords, q12, marked, mark, count, firstNot, AllMarked};
 
 // The first unmarked block, by rows, then columns.
 pub enum FirstUnmarked {
@@ -16,6 +16,14 @@ pub fn mark_words(n: usize) -> usize
     ensures { λ r. ⌜ r ≡ markWords n ⌝ }
 {
     (n + 63) / 64
+}
+
+// Question 12: are there words for n marks?
+pub fn has_words(words: usize, n: usize) -> bool
+    requires { ⌜ n + 63 < 2 ^ 64 ⌝ }
+    ensures { λ r. ⌜ r ≡ q12 n words ⌝ }
+{
+    mark_words(n) <= words
 }
 
 // Is block i marked?

@@ -1,11 +1,7 @@
 -- The laws of `mask`.
--- Assumes nothing.
-pub mod Listed
+pub mod Tabulate
 pub mod Records
 pub mod Fields
-pub mod Asked
-pub mod Marks
-pub mod Looked
-pub mod Answers
-pub mod Runs
+pub mod Numbers
+pub mod TableWrites
 pub mod RoundTrip

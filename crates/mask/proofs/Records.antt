@@ -1,71 +1,47 @@
--- Laws of the records of a table: how many there are, which one lookup takes, and which block's is filled.
+-- Laws of the records of a table: how many there are, which one lookup takes, and whose the filled ones are.
 -- Assumes nothing.
-use mathlib.Core.Path.{_≡_, refl, sym}
-use mathlib.Core.List.{[], _∷_}
-use mathlib.Core.Logic.{⊎-elim}
+use mathlib.Core.Path.{_≡_, refl}
+use mathlib.Core.Bool.{Bool, true, false}
 use Prim.Native.Nat.{ℕ, _*_, _/_, _≤_, _<_}
-use native.Mathlib.Nat.{div-one, div-lt-iff-lt-mul, mul-le-mul-left}
+use native.Mathlib.Nat.{div-lt-iff-lt-mul, mul-le-mul-left}
 use native.Mathlib.Omega.{arith}
-use denote.Enum.Declared.{tagOf}
-use types.Run.{OneOf}
 use lib.Arith.{digits-lt}
+use Rattle.common.specs.Tests.{pick}
+use Rattle.layout.specs.Order.{bandsApart}
 use Rattle.grid.specs.declared.Grid.{Grid}
-use Rattle.grid.specs.declared.InterleaveMode.{InterleaveMode}
-use Rattle.grid.specs.declared.InterleaveMode.the-variants.{B, P, R, S}
-use Rattle.grid.specs.Sizes.{blocks}
-use Rattle.grid.proofs.InterleaveMode.{the-type}
-use Rattle.grid.proofs.Accepted.{Facts}
-use Rattle.mask.specs.Table.{recordCount, lookupRecord, filledBlock, blockRecords}
+use Rattle.grid.specs.Check.{Accepted}
+use Rattle.grid.specs.Sizes.{blocks, blockIndex}
+use Rattle.grid.specs.Layout.{Block}
+use Rattle.grid.proofs.Accepted.{facts, index-lt}
+use Rattle.mask.specs.Table.{records, lookupRecord, filledBlock}
 
--- ---- B, P and R
-
--- one record a block
-pub record OneEach (m : InterleaveMode) : Type 0 where
-  pub count : (g : Grid) → blocks g ≡ recordCount m g
-  pub looked : (index band : ℕ) → index ≡ lookupRecord m index band
-  pub each : (g : Grid) → 1 ≡ blockRecords m g
-
-pub one-each : (m : InterleaveMode) → OneOf (0 ∷ 1 ∷ 2 ∷ []) (tagOf the-type m) → OneEach m
-one-each B h = record { count = λ g. refl; looked = λ index band. refl; each = λ g. refl }
-one-each P h = record { count = λ g. refl; looked = λ index band. refl; each = λ g. refl }
-one-each R h = record { count = λ g. refl; looked = λ index band. refl; each = λ g. refl }
-one-each S h = absurd (⊎-elim (λ e. omega arith) (λ h. ⊎-elim (λ e. omega arith) (λ e. omega arith) h) h)
-
--- ---- all modes
-
-pub count-le : (m : InterleaveMode) (g : Grid) → Facts g → recordCount m g ≤ 9_997_900_119_999
-count-le B g f = omega (arith, f .blocks-le)
-count-le P g f = omega (arith, f .blocks-le)
-count-le R g f = omega (arith, f .blocks-le)
-count-le S g f = f .slots-le
-
-pub each-pos : (m : InterleaveMode) (g : Grid) → Facts g → 0 < blockRecords m g
-each-pos B g f = omega arith
-each-pos P g f = omega arith
-each-pos R g f = omega arith
-each-pos S g f = f .sides .bands-pos
-
--- the blocks in their order, each with its records side by side
-pub count-is : (m : InterleaveMode) (g : Grid) → recordCount m g ≡ blocks g * blockRecords m g
-count-is B g = omega arith
-count-is P g = omega arith
-count-is R g = omega arith
-count-is S g = refl
-
-pub filled-is : (m : InterleaveMode) (g : Grid) (k : ℕ) → filledBlock m g k ≡ k / blockRecords m g
-filled-is B g k = sym (div-one k)
-filled-is P g k = sym (div-one k)
-filled-is R g k = sym (div-one k)
-filled-is S g k = refl
-
-pub filled-lt : (m : InterleaveMode) (g : Grid) (k : ℕ) → Facts g → k < recordCount m g → k / blockRecords m g < blocks g
-filled-lt m g k f h = div-lt-iff-lt-mul {k = blockRecords m g} {x = k} {y = blocks g} (each-pos m g f) .1 (rw (count-is m g) at h)
+pub records-le : (g : Grid) → Accepted g → records g ≤ 9_997_900_119_999
+unfolding records pick
+records-le g a = go (bandsApart (g .imode))
+  where
+    go : (apart : Bool) → pick apart (blocks g * g .bands) (blocks g) ≤ 9_997_900_119_999
+    go true = facts g a .slots-le
+    go false = omega (arith, facts g a .blocks-le)
 
 -- lookup takes a record that the table has
-pub looked-lt : (m : InterleaveMode) (g : Grid) (index band : ℕ) → index < blocks g → band < g .bands → lookupRecord m index band < recordCount m g
-looked-lt B g index band h l = h
-looked-lt P g index band h l = h
-looked-lt R g index band h l = h
-looked-lt S g index band h l =
-    let b : 1 ≤ g .bands = omega arith in
-    omega (arith, mul-le-mul-left index b, digits-lt {q = index} {m = blocks g} {r = band} {c = g .bands} h l)
+pub lookup-lt : (g : Grid) (row column band : ℕ) → Block g row column → band < g .bands
+    → lookupRecord g row column band < records g
+unfolding records lookupRecord pick
+lookup-lt g row column band b h = go (bandsApart (g .imode)) refl
+  where
+    go : (apart : Bool) → bandsApart (g .imode) ≡ apart → lookupRecord g row column band < records g
+    go true e =
+        let i : ℕ = blockIndex g row column in
+        let l : i < blocks g = index-lt g row column b in
+        let one : 1 ≤ g .bands = omega arith in
+        rw e (omega (arith, mul-le-mul-left i one, digits-lt {q = i} {m = blocks g} {r = band} {c = g .bands} l h))
+    go false e = rw e (index-lt g row column b)
+
+-- the block whose record is filled is one of the grid's
+pub filled-lt : (g : Grid) (k : ℕ) → Accepted g → k < records g → filledBlock g k < blocks g
+unfolding records filledBlock pick
+filled-lt g k a h = go (bandsApart (g .imode)) h
+  where
+    go : (apart : Bool) → k < pick apart (blocks g * g .bands) (blocks g) → pick apart (k / g .bands) k < blocks g
+    go true l = div-lt-iff-lt-mul {k = g .bands} {x = k} {y = blocks g} (facts g a .sides .bands-pos) .1 l
+    go false l = l

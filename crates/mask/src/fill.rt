@@ -2,39 +2,37 @@
 ghost use mathlib.Core.Path.{_≡_};
 ghost use Prim.Native.Nat.{_*_, _≤_};
 ghost use lib.ListN.{length};
-ghost use Rattle.bits.specs.Over.{over};
+ghost use Rattle.common.specs.Over.{over};
 ghost use Rattle.grid.specs.Check.{Accepted};
 ghost use Rattle.grid.specs.Sizes.{blocks};
-ghost use Rattle.mask.specs.Table.{records, blockRecords};
-ghost use Rattle.mask.specs.Mask.{fromMarksNumber, markRecords, fromProvidedBlocks, MarksOut};
+ghost use Rattle.mask.specs.Table.{records, filledBlock};
+ghost use Rattle.mask.specs.Mask.{fromMarksNumber, markRecords, marksWith, fromProvidedBlocks};
 use crate::ImageDataMask;
 use crate::Parsed;
 use crate::record_count;
+use common::pick;
 use grid::Grid;
-use grid::InterleaveMode;
+use layout::bands_apart;
+use marks::has_words;
 use marks::is_marked;
-use marks::mark_words;
 
-// The records of one block, which stand side by side: its bands in S, else one.
-fn block_records(grid: Grid) -> usize
-    ensures { λ r. ⌜ r ≡ blockRecords (grid .imode) grid ⌝ }
+// The block whose record k is filled; in S record index × bands + band is the block's.
+fn filled_block(grid: Grid, k: usize) -> usize
+    requires { ⌜ Accepted grid ⌝ }
+    ensures { λ r. ⌜ r ≡ filledBlock grid k ⌝ }
 {
-    let m = grid.imode;
-    match m {
-        InterleaveMode::S => grid.bands as usize,
-        _ => 1,
-    }
+    let mode = grid.imode;
+    pick(bands_apart(mode), k / grid.bands as usize, k)
 }
 
 // Fills one word a record: 0 for a marked block, all ones for another.
 fn fill_records(marks: &[u64], grid: Grid, out: &mut [u32])
     requires { ⌜ Accepted grid ⌝ }
     requires { ⌜ (blocks grid ≤ 64 * length (now marks)) × (records grid ≤ length (now out)) ⌝ }
-    ensures { λ _. ⌜ now (out .exit) ≡ over (now (out .entry)) 0 (markRecords grid (now (marks .entry)) (records grid)) ⌝ }
+    ensures { λ _. ⌜ now (out .exit) ≡ over (now (out .entry)) 0 (markRecords grid (now (marks .entry))) ⌝ }
 {
-    let each = block_records(grid);
     for k in 0..record_count(grid) {
-        if is_marked(marks, k / each) {
+        if is_marked(marks, filled_block(grid, k)) {
             out[k] = 0;
         } else {
             out[k] = ImageDataMask::EMPTY_BLOCK_OFFSET;
@@ -43,7 +41,7 @@ fn fill_records(marks: &[u64], grid: Grid, out: &mut [u32])
 }
 
 impl ImageDataMask {
-    // The questions of the mask from marks, for so many mark words and so many lent words.
+    // The questions of the mask from marks: 1 to 4, 12 and 9, for so many mark words and so many lent words.
     fn marks_number(grid: Grid, words: usize, room: usize) -> u32
         ensures { λ r. ⌜ r ≡ fromMarksNumber grid words room ⌝ }
     {
@@ -51,7 +49,7 @@ impl ImageDataMask {
         if number != 0 {
             return number;
         }
-        if words < mark_words(grid.blocks()) {
+        if !has_words(words, grid.blocks()) {
             return 12;
         }
         if room < record_count(grid) {
@@ -60,9 +58,10 @@ impl ImageDataMask {
         0
     }
 
-    // The mask of a picture of which the marked blocks are provided: record lengths 4 and 0, no code, and one word a record.
+    // The mask of a picture of which the marked blocks are provided: record lengths 4 and 0, no code, a word a record.
     pub fn from_provided_blocks(marks: &[u64], grid: Grid, out: &mut [u32]) -> Parsed
-        ensures { λ r. ⌜ _≡_ {A = MarksOut} (record { answer = r; out = now (out .exit) }) (fromProvidedBlocks grid (now (marks .entry)) (now (out .entry))) ⌝ }
+        ensures { λ r. ⌜ marksWith r (now (out .exit))
+            ≡ fromProvidedBlocks grid (now (marks .entry)) (now (out .entry)) ⌝ }
     {
         let number = Self::marks_number(grid, marks.len(), out.len());
         if number != 0 {

@@ -1,9 +1,10 @@
 // The image data mask table: which blocks of a picture are stored, and where.
 ghost use mathlib.Core.Path.{_≡_};
 ghost use Rattle.grid.specs.Check.{Accepted};
-ghost use Rattle.mask.specs.Table.{records};
+ghost use Rattle.mask.specs.Table.{records, codeBytes};
+use common::pick;
 use grid::Grid;
-use grid::InterleaveMode;
+use layout::bands_apart;
 
 mod fill;
 mod lookup;
@@ -25,7 +26,8 @@ pub struct ImageDataMask {
     pub pad_pixel_code: u32,
 }
 
-// What parse answers: the number, the header, and the bytes that the table takes. The mask from marks answers the words that it filled.
+// What parse answers: the number, the header, and the bytes that the table takes. The mask from marks answers the words
+// that it filled.
 #[repr(C)]
 pub struct Parsed {
     pub number: u32,
@@ -72,14 +74,19 @@ impl ImageDataMask {
     pub const MAX_TABLE_BYTES: usize = 4_294_967_295;
 }
 
-// The records of a table: one a block, in S one a block and band.
+// The records of a table, of each kind that it has at all: one a block, in S one a block and band.
 fn record_count(grid: Grid) -> usize
     requires { ⌜ Accepted grid ⌝ }
     ensures { λ r. ⌜ r ≡ records grid ⌝ }
 {
-    let m = grid.imode;
-    match m {
-        InterleaveMode::S => grid.blocks() * grid.bands as usize,
-        _ => grid.blocks(),
-    }
+    let mode = grid.imode;
+    let blocks = grid.blocks();
+    pick(bands_apart(mode), blocks * grid.bands as usize, blocks)
+}
+
+// The bytes of a pad code of so many bits.
+fn code_bytes(bits: u16) -> usize
+    ensures { λ r. ⌜ r ≡ codeBytes bits ⌝ }
+{
+    (bits as usize + 7) / 8
 }

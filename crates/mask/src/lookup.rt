@@ -1,33 +1,41 @@
 // Is a block present, and where is it?
 ghost use mathlib.Core.Path.{_≡_};
 ghost use Rattle.bits.specs.Bits.{beAt};
-ghost use Rattle.grid.specs.Sizes.{blockIndex};
-ghost use Rattle.mask.specs.Table.{lookupRecord, blockRecord};
-ghost use Rattle.mask.specs.Mask.{lookupNumber, hasBlock, getBlockOffset};
+ghost use Rattle.grid.specs.Check.{Accepted};
+ghost use Rattle.grid.specs.Layout.{Block};
+ghost use Rattle.mask.specs.Table.{lookupRecord};
+ghost use Rattle.mask.specs.Mask.{lookupNumber, recordOf, hasBlock, getBlockOffset};
 use crate::BlockOffset;
 use crate::ImageDataMask;
 use crate::Present;
+use crate::code_bytes;
+use crate::parse::read_four;
+use crate::parse::read_two;
+use common::pick;
 use grid::Grid;
-use grid::InterleaveMode;
-use samples::bytes::get_be;
+use layout::bands_apart;
+
+// The record that lookup takes for a band of a block; in S it is the Rust's index + band.
+fn lookup_record(grid: Grid, block_row: u32, block_col: u32, band: u32) -> usize
+    requires { ⌜ Accepted grid ⌝ }
+    requires { ⌜ Block grid «block_row» «block_col» ⌝ }
+    ensures { λ r. ⌜ r ≡ lookupRecord grid «block_row» «block_col» band ⌝ }
+{
+    let mode = grid.imode;
+    let index = grid.block_index(block_row as usize, block_col as usize);
+    pick(bands_apart(mode), index + band as usize, index)
+}
 
 impl ImageDataMask {
-    // The questions of a lookup.
+    // The questions of a lookup: those of the table, 6 and 8.
     pub fn lookup_number(table: &[u8], grid: Grid, block_row: u32, block_col: u32, band: u32) -> u32
         ensures { λ r. ⌜ r ≡ lookupNumber grid (now (table .entry)) «block_row» «block_col» band ⌝ }
     {
-        let number = grid.check();
+        let number = Self::parse_number(table, grid);
         if number != 0 {
             return number;
         }
-        let number = Self::table_number(table, grid);
-        if number != 0 {
-            return number;
-        }
-        if block_row >= grid.nbpc {
-            return 6;
-        }
-        if block_col >= grid.nbpr {
+        if !grid.has_block(block_row, block_col) {
             return 6;
         }
         if band >= grid.bands {
@@ -36,20 +44,15 @@ impl ImageDataMask {
         0
     }
 
-    // The record of a band of a block that lookup takes; in S it is the Rust's index + band.
+    // The offset that a table has for a band of a block.
     fn record_of(table: &[u8], grid: Grid, block_row: u32, block_col: u32, band: u32) -> u32
         requires { ⌜ lookupNumber grid (now table) «block_row» «block_col» band ≡ 0 ⌝ }
         requires { ⌜ (beAt (now table) 4 2 ≡ 0 → ⊥) ⌝ }
-        ensures { λ r. ⌜ r ≡ blockRecord (now (table .entry)) (lookupRecord (grid .imode) (blockIndex grid «block_row» «block_col») band) ⌝ }
+        ensures { λ r. ⌜ r ≡ recordOf grid (now (table .entry)) «block_row» «block_col» band ⌝ }
     {
-        let index = grid.block_index(block_row as usize, block_col as usize);
-        let m = grid.imode;
-        let record = match m {
-            InterleaveMode::S => index + band as usize,
-            _ => index,
-        };
-        let code = (get_be(table, 8, 2) as usize + 7) / 8;
-        get_be(table, Self::HEADER_BYTES + code + record * 4, 4) as u32
+        let record = lookup_record(grid, block_row, block_col, band);
+        let code = code_bytes(read_two(table, 8));
+        read_four(table, Self::HEADER_BYTES + code + record * 4)
     }
 
     // Is a band of a block present? Without block records every block is.
@@ -63,7 +66,7 @@ impl ImageDataMask {
                 present: false,
             };
         }
-        if get_be(table, 4, 2) == 0 {
+        if read_two(table, 4) == 0 {
             return Present {
                 number: 0,
                 present: true,
@@ -99,7 +102,7 @@ impl ImageDataMask {
                 offset: 0,
             };
         }
-        if get_be(table, 4, 2) == 0 {
+        if read_two(table, 4) == 0 {
             return none;
         }
         let offset = Self::record_of(table, grid, block_row, block_col, band);

@@ -1,15 +1,43 @@
 // Reading a table's header.
 ghost use mathlib.Core.Path.{_≡_};
-ghost use Prim.Native.Nat.{_≤_};
+ghost use Prim.Native.Nat.{_+_, _≤_};
 ghost use lib.ListN.{length};
+ghost use Rattle.bits.specs.Bits.{beAt};
 ghost use Rattle.grid.specs.Check.{Accepted};
-ghost use Rattle.mask.specs.Table.{lengths as lengthsOf};
-ghost use Rattle.mask.specs.Mask.{q17, maskSize, noMask, askTable, parse as parseOf};
+ghost use Rattle.mask.specs.Table.{headerWith, maskSize};
+ghost use Rattle.mask.specs.Mask.{isRecordLength, q17, noMask, parseNumber, parse as parseOf};
 use crate::ImageDataMask;
 use crate::Parsed;
+use crate::code_bytes;
 use crate::record_count;
+use bits::bytes::get_be;
 use grid::Grid;
-use samples::bytes::get_be;
+
+// The big-endian number in two bytes of a table.
+pub fn read_two(table: &[u8], at: usize) -> u16
+    requires { ⌜ at + 2 ≤ length (now table) ⌝ }
+    ensures { λ r. ⌜ r ≡ beAt (now (table .entry)) at 2 ⌝ }
+{
+    get_be(table, at, 2) as u16
+}
+
+// The big-endian number in four bytes of a table.
+pub fn read_four(table: &[u8], at: usize) -> u32
+    requires { ⌜ at + 4 ≤ length (now table) ⌝ }
+    ensures { λ r. ⌜ r ≡ beAt (now (table .entry)) at 4 ⌝ }
+{
+    get_be(table, at, 4) as u32
+}
+
+// Is this the length of records, or 0 for none?
+fn is_record_length(n: u16) -> bool
+    ensures { λ r. ⌜ r ≡ isRecordLength n ⌝ }
+{
+    if n == 0 {
+        return true;
+    }
+    n == ImageDataMask::RECORD_LENGTH
+}
 
 impl ImageDataMask {
     // No mask: what stands beside a refusal.
@@ -28,13 +56,13 @@ impl ImageDataMask {
     // The header of a table without its pad code.
     fn lengths(table: &[u8]) -> Self
         requires { ⌜ 10 ≤ length (now table) ⌝ }
-        ensures { λ r. ⌜ r ≡ lengthsOf (now (table .entry)) ⌝ }
+        ensures { λ r. ⌜ r ≡ headerWith (now (table .entry)) 0 ⌝ }
     {
         Self {
-            image_data_offset: get_be(table, 0, 4) as u32,
-            block_mask_record_length: get_be(table, 4, 2) as u16,
-            pad_pixel_mask_record_length: get_be(table, 6, 2) as u16,
-            pad_pixel_code_length: get_be(table, 8, 2) as u16,
+            image_data_offset: read_four(table, 0),
+            block_mask_record_length: read_two(table, 4),
+            pad_pixel_mask_record_length: read_two(table, 6),
+            pad_pixel_code_length: read_two(table, 8),
             pad_pixel_code: 0,
         }
     }
@@ -43,12 +71,10 @@ impl ImageDataMask {
     pub fn has_record_lengths(self) -> bool
         ensures { λ r. ⌜ r ≡ q17 self ⌝ }
     {
-        let block = self.block_mask_record_length;
-        let pad = self.pad_pixel_mask_record_length;
-        if block != 0 && block != Self::RECORD_LENGTH {
+        if !is_record_length(self.block_mask_record_length) {
             return false;
         }
-        pad == 0 || pad == Self::RECORD_LENGTH
+        is_record_length(self.pad_pixel_mask_record_length)
     }
 
     // The bytes of a table with this header.
@@ -58,15 +84,18 @@ impl ImageDataMask {
     {
         let block = self.block_mask_record_length as usize;
         let pad = self.pad_pixel_mask_record_length as usize;
-        let code = (self.pad_pixel_code_length as usize + 7) / 8;
+        let code = code_bytes(self.pad_pixel_code_length);
         Self::HEADER_BYTES + code + record_count(grid) * (block + pad)
     }
 
-    // Questions 16 to 19 of a table.
-    pub fn table_number(table: &[u8], grid: Grid) -> u32
-        requires { ⌜ Accepted grid ⌝ }
-        ensures { λ r. ⌜ r ≡ askTable grid (now (table .entry)) 0 ⌝ }
+    // The questions of a table: 1 to 4, 16 to 19.
+    pub fn parse_number(table: &[u8], grid: Grid) -> u32
+        ensures { λ r. ⌜ r ≡ parseNumber grid (now (table .entry)) ⌝ }
     {
+        let number = grid.check();
+        if number != 0 {
+            return number;
+        }
         if table.len() < Self::HEADER_BYTES {
             return 16;
         }
@@ -87,10 +116,7 @@ impl ImageDataMask {
     pub fn parse(table: &[u8], grid: Grid) -> Parsed
         ensures { λ r. ⌜ r ≡ parseOf grid (now (table .entry)) ⌝ }
     {
-        let mut number = grid.check();
-        if number == 0 {
-            number = Self::table_number(table, grid);
-        }
+        let number = Self::parse_number(table, grid);
         if number != 0 {
             return Parsed {
                 number,
@@ -100,7 +126,7 @@ impl ImageDataMask {
         }
         let mut mask = Self::lengths(table);
         let used = mask.table_bytes(grid);
-        let size = (mask.pad_pixel_code_length as usize + 7) / 8;
+        let size = code_bytes(mask.pad_pixel_code_length);
         mask.pad_pixel_code = get_be(table, Self::HEADER_BYTES, size) as u32;
         Parsed {
             number: 0,

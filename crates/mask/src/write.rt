@@ -1,21 +1,23 @@
 // Writing a table.
 ghost use mathlib.Core.Path.{_≡_};
 ghost use Prim.Native.Nat.{_+_, _*_, _≤_};
-ghost use lib.ListN.{length, getD};
-ghost use Rattle.bits.specs.Over.{over};
-ghost use Rattle.samples.specs.Samples.{values};
+ghost use lib.ListN.{length};
+ghost use Rattle.common.specs.Over.{over};
 ghost use Rattle.grid.specs.Check.{Accepted};
-ghost use Rattle.mask.specs.Mask.{q20, q22, writeNumber, toBytes, WrittenOut};
+ghost use Rattle.mask.specs.Table.{lengthBytes, offsetBytes};
+ghost use Rattle.mask.specs.Mask.{q20, q22, maskWriteNumber, writtenWith, toBytes};
 use crate::ImageDataMask;
 use crate::Written;
+use crate::code_bytes;
 use crate::record_count;
+use bits::bytes::put_be;
+use common::pick;
 use grid::Grid;
-use samples::bytes::put_be;
 
 // Puts the offsets of a list at index `at` of `out` on, four bytes each.
 fn put_offsets(list: &[u32], out: &mut [u8], at: usize)
     requires { ⌜ at + length (now list) * 4 ≤ length (now out) ⌝ }
-    ensures { λ _. ⌜ now (out .exit) ≡ over (now (out .entry)) at (values (λ k. getD (now (list .entry)) k 0) 4 (length (now (list .entry)))) ⌝ }
+    ensures { λ _. ⌜ now (out .exit) ≡ over (now (out .entry)) at (offsetBytes (now (list .entry))) ⌝ }
 {
     for k in 0..list.len() {
         put_be(out, at + k * 4, 4, list[k] as u64);
@@ -27,7 +29,7 @@ impl ImageDataMask {
     fn code_fits(self) -> bool
         ensures { λ r. ⌜ r ≡ q20 self ⌝ }
     {
-        let bytes = (self.pad_pixel_code_length as usize + 7) / 8;
+        let bytes = code_bytes(self.pad_pixel_code_length);
         if bytes >= 4 {
             return true;
         }
@@ -40,23 +42,15 @@ impl ImageDataMask {
         ensures { λ r. ⌜ r ≡ q22 grid self blocks pads ⌝ }
     {
         let records = record_count(grid);
-        let mut want_blocks = records;
-        if self.block_mask_record_length == 0 {
-            want_blocks = 0;
-        }
-        let mut want_pads = records;
-        if self.pad_pixel_mask_record_length == 0 {
-            want_pads = 0;
-        }
-        if blocks != want_blocks {
+        if blocks != pick(self.block_mask_record_length == 0, 0, records) {
             return false;
         }
-        pads == want_pads
+        pads == pick(self.pad_pixel_mask_record_length == 0, 0, records)
     }
 
     // The questions of a mask write, for lists of so many entries and an output of so many bytes.
     fn write_number(self, grid: Grid, blocks: usize, pads: usize, room: usize) -> u32
-        ensures { λ r. ⌜ r ≡ writeNumber grid self blocks pads room ⌝ }
+        ensures { λ r. ⌜ r ≡ maskWriteNumber grid self blocks pads room ⌝ }
     {
         let number = grid.check();
         if number != 0 {
@@ -84,6 +78,17 @@ impl ImageDataMask {
         0
     }
 
+    // Puts the bytes before the pad code, with this number in IMDATOFF.
+    fn put_lengths(self, offset: usize, out: &mut [u8])
+        requires { ⌜ 10 ≤ length (now out) ⌝ }
+        ensures { λ _. ⌜ now (out .exit) ≡ over (now (out .entry)) 0 (lengthBytes offset self) ⌝ }
+    {
+        put_be(out, 0, 4, offset as u64);
+        put_be(out, 4, 2, self.block_mask_record_length as u64);
+        put_be(out, 6, 2, self.pad_pixel_mask_record_length as u64);
+        put_be(out, 8, 2, self.pad_pixel_code_length as u64);
+    }
+
     // Writes a table with this header and the two lists of offsets; its own size goes to IMDATOFF.
     pub fn to_bytes(
         self,
@@ -92,7 +97,8 @@ impl ImageDataMask {
         grid: Grid,
         out: &mut [u8],
     ) -> Written
-        ensures { λ r. ⌜ _≡_ {A = WrittenOut} (record { answer = r; out = now (out .exit) }) (toBytes grid self (now («block_offsets» .entry)) (now («pad_pixel_offsets» .entry)) (now (out .entry))) ⌝ }
+        ensures { λ r. ⌜ writtenWith r (now (out .exit))
+            ≡ toBytes grid self (now («block_offsets» .entry)) (now («pad_pixel_offsets» .entry)) (now (out .entry)) ⌝ }
     {
         let number = self.write_number(
             grid,
@@ -104,11 +110,8 @@ impl ImageDataMask {
             return Written { number, bytes: 0 };
         }
         let size = self.table_bytes(grid);
-        put_be(out, 0, 4, size as u64);
-        put_be(out, 4, 2, self.block_mask_record_length as u64);
-        put_be(out, 6, 2, self.pad_pixel_mask_record_length as u64);
-        put_be(out, 8, 2, self.pad_pixel_code_length as u64);
-        let code = (self.pad_pixel_code_length as usize + 7) / 8;
+        self.put_lengths(size, out);
+        let code = code_bytes(self.pad_pixel_code_length);
         put_be(out, Self::HEADER_BYTES, code, self.pad_pixel_code as u64);
         let at = Self::HEADER_BYTES + code;
         put_offsets(block_offsets, out, at);

@@ -1,6 +1,7 @@
-// Mask tables at their limits: sizes that would wrap in 32 bits, the largest table that question 21 accepts, the smallest that it refuses.
+// Mask tables at their limits: sizes that would wrap in 32 bits, the largest table that question 21 accepts, the
+// smallest that it refuses.
 use grid::Grid;
-use grid::InterleaveMode;
+use layout::InterleaveMode;
 use mask::ImageDataMask;
 
 const OUT: i32 = 1;

@@ -1,5 +1,5 @@
 // What the programs print: text, numbers, bytes and the answers of reads.
-use frame::Shape;
+use calls::Shape;
 
 const OUT: i32 = 1;
 

@@ -1,6 +1,6 @@
 // The counts of calls, by kind: each kind has its accepted calls and, next to them, its refused calls.
 use crate::numbers::sum;
-use frame::Answer;
+use calls::Answer;
 
 pub const STARTS: usize = 0;
 

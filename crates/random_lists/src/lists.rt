@@ -1,16 +1,16 @@
 // One random list of calls after a start.
 ghost use Prim.Native.Nat.{_≤_};
-use crate::calls::finish;
-use crate::calls::progress;
-use crate::calls::random_skip;
-use crate::calls::random_write;
-use crate::calls::start;
 use crate::numbers::sum;
 use crate::picture::Picture;
 use crate::picture::some_picture;
 use crate::random::below;
 use crate::random::fill;
 use crate::reads::random_window;
+use crate::writes::finish;
+use crate::writes::progress;
+use crate::writes::random_skip;
+use crate::writes::random_write;
+use crate::writes::start;
 
 // A call lends all of a buffer, or now and then only its first part.
 fn lent(seed: &mut u64, size: usize) -> usize

@@ -1,6 +1,6 @@
-// Runs long random lists of calls against a plain frame of its own, and prints how many calls were accepted and refused.
+// Runs long random lists of calls against a plain frame of its own, and prints how many calls were accepted and
+// refused.
 // A call that answers otherwise than the plain frame is counted as a difference.
-mod calls;
 mod counts;
 mod ends;
 mod lists;
@@ -10,6 +10,7 @@ mod plain;
 mod questions;
 mod random;
 mod reads;
+mod writes;
 
 use crate::counts::DIFFERENCES;
 use crate::counts::FINISHES;

@@ -13,7 +13,7 @@ pub fn less(a: u64, b: u64) -> u64 {
     a - b
 }
 
-pub fn least(a: u64, b: u64) -> u64 {
+pub fn min(a: u64, b: u64) -> u64 {
     if a < b {
         return a;
     }

@@ -1,15 +1,16 @@
 // A picture in plain numbers, worked out here, and its grid for the calls.
 use crate::numbers::ceiling;
-use crate::numbers::least;
 use crate::numbers::less;
+use crate::numbers::min;
 use crate::numbers::product;
 use crate::numbers::small;
 use crate::numbers::sum;
 use crate::random::below;
 use grid::Grid;
-use grid::InterleaveMode;
+use layout::InterleaveMode;
 
-// The fields of the grid; then the blocks across and down, the bytes of a sample, of a band of a block and of the image.
+// The fields of the grid; then the blocks across and down, the bytes of a sample, of a band of a block and of the
+// image.
 // The modes B, P, R, S are 0 to 3.
 pub struct Picture {
     pub nrows: u64,
@@ -139,10 +140,10 @@ pub fn grid_of(p: Picture) -> Grid {
 
 // The rows of a block that are inside the picture.
 pub fn actual_rows(p: Picture, row: u64) -> u64 {
-    least(p.nppbv, less(p.nrows, product(p.nppbv, row)))
+    min(p.nppbv, less(p.nrows, product(p.nppbv, row)))
 }
 
 // The columns of a block that are inside the picture.
 pub fn actual_columns(p: Picture, column: u64) -> u64 {
-    least(p.nppbh, less(p.ncols, product(p.nppbh, column)))
+    min(p.nppbh, less(p.ncols, product(p.nppbh, column)))
 }

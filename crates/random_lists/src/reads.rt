@@ -20,7 +20,7 @@ use crate::picture::grid_of;
 use crate::plain::place;
 use crate::plain::sample;
 use crate::random::below;
-use frame::Shape;
+use calls::Shape;
 
 // The band that stands at k in a list, or 0.
 fn listed(bands: &[u32], k: usize) -> u32 {

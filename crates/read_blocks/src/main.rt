@@ -1,7 +1,8 @@
-// Reads every block of a small picture in every mode at eleven widths by a reader, then asks what document 01 makes of listed bands,
+// Reads every block of a small picture in every mode at eleven widths by a reader, then asks what document 01 makes of
+// listed bands,
 // refusals and short files, and prints the answers. tools/expected_blocks.py works out what it must print.
 use grid::Grid;
-use grid::InterleaveMode;
+use layout::InterleaveMode;
 use printing::print_bytes;
 use printing::print_letter;
 use printing::print_number;

@@ -1,11 +1,13 @@
-// A reader holds the image slice and its grid together. Each of its calls asks all the questions of the entry point that it
-// stands over, 1 to 4 about the grid first, so a reader of a refused grid refuses every read. `check` tells the grid's number.
+// A reader holds the image slice and its grid together. Each of its calls asks all the questions of the entry point
+// that it
+// stands over, 1 to 4 about the grid first, so a reader of a refused grid refuses every read. `check` tells the grid's
+// number.
 ghost use mathlib.Core.Path.{_≡_};
+ghost use Rattle.calls.specs.Orders.{rectangle};
 ghost use Rattle.grid.specs.Check.{gridNumber};
-ghost use Rattle.grid.specs.Bands.{bandsOf};
-ghost use Rattle.frame.specs.Reads.{blockRead, wholeBlock, window, Filled};
-ghost use Rattle.windows.specs.Windows.{rectangle};
-use frame::Shape;
+ghost use Rattle.layout.specs.Bands.{bandsOf};
+ghost use Rattle.calls.specs.Reads.{blockRead, wholeBlock, window, filledWith};
+use calls::Shape;
 use grid::Grid;
 
 pub struct Reader<'a> {
@@ -37,7 +39,9 @@ impl<'a> Reader<'a> {
         bands: &[u32],
         out: &mut [u8],
     ) -> Shape
-        ensures { λ r. ⌜ _≡_ {A = Filled} (record { shape = r; out = now (out .exit) }) (blockRead (self .entry .grid) (now (self .entry .image)) «block_row» «block_col» «resolution_level» (bandsOf all (now (bands .entry))) (now (out .entry))) ⌝ }
+        ensures { λ r. ⌜ filledWith r (now (out .exit))
+            ≡ blockRead (self .entry .grid) (now (self .entry .image)) «block_row» «block_col» «resolution_level»
+            (bandsOf all (now (bands .entry))) (now (out .entry)) ⌝ }
     {
         reading::decode_block(
             self.image,
@@ -62,7 +66,9 @@ impl<'a> Reader<'a> {
         bands: &[u32],
         out: &mut [u8],
     ) -> Shape
-        ensures { λ r. ⌜ _≡_ {A = Filled} (record { shape = r; out = now (out .exit) }) (window (self .entry .grid) (now (self .entry .image)) (rectangle row column rows columns (bandsOf all (now (bands .entry)))) (now (out .entry))) ⌝ }
+        ensures { λ r. ⌜ filledWith r (now (out .exit))
+            ≡ window (self .entry .grid) (now (self .entry .image))
+            (rectangle row column rows columns (bandsOf all (now (bands .entry)))) (now (out .entry)) ⌝ }
     {
         windows::read_window(
             self.image,
@@ -96,7 +102,9 @@ pub fn read_block(
     bands: &[u32],
     out: &mut [u8],
 ) -> Shape
-    ensures { λ r. ⌜ _≡_ {A = Filled} (record { shape = r; out = now (out .exit) }) (blockRead grid (now (image .entry)) «block_row» «block_col» «resolution_level» (bandsOf all (now (bands .entry))) (now (out .entry))) ⌝ }
+    ensures { λ r. ⌜ filledWith r (now (out .exit))
+        ≡ blockRead grid (now (image .entry)) «block_row» «block_col» «resolution_level»
+        (bandsOf all (now (bands .entry))) (now (out .entry)) ⌝ }
 {
     Reader::new(image, grid).decode_block(block_row, block_col, resolution_level, all, bands, out)
 }

@@ -1,23 +1,18 @@
 // Reading blocks: `decode_block`, and the whole block as a part of the image.
 ghost use mathlib.Core.Path.{_≡_};
 ghost use lib.ListN.{length};
-ghost use Rattle.grid.specs.Bands.{bandsOf};
-ghost use Rattle.frame.specs.Reads.{blockNumber, blockRead, Filled};
-ghost use Rattle.reading.specs.Blocks.{noShape};
-use frame::Shape;
+ghost use Rattle.layout.specs.Bands.{bandsOf};
+ghost use Rattle.calls.specs.Orders.{blockNumber};
+ghost use Rattle.calls.specs.Reads.{filledWith, blockRead};
+use calls::Shape;
+use calls::refused;
+use common::product_fits;
 use grid::Grid;
-use grid::bands::band_count;
-use grid::bands::bands_below;
+use layout::bands::band_count;
+use layout::bands::bands_below;
+use moves::part::read_planes;
 
-mod even;
-mod packed;
-pub mod part;
-mod pixels;
 pub mod whole;
-
-use crate::part::Part;
-use crate::part::read_part;
-use crate::part::whole_part;
 
 // The questions of a block read, for an image of so many bytes and an output of so many.
 fn block_number(
@@ -30,7 +25,8 @@ fn block_number(
     bands: &[u32],
     room: usize,
 ) -> u32
-    ensures { λ r. ⌜ r ≡ blockNumber grid image «block_row» «block_col» «resolution_level» (bandsOf all (now (bands .entry))) room ⌝ }
+    ensures { λ r. ⌜ r ≡ blockNumber grid image «block_row» «block_col» «resolution_level»
+        (bandsOf all (now (bands .entry))) room ⌝ }
 {
     let number = grid.check();
     if number != 0 {
@@ -39,10 +35,7 @@ fn block_number(
     if resolution_level != 0 {
         return 5;
     }
-    if block_row >= grid.nbpc {
-        return 6;
-    }
-    if block_col >= grid.nbpr {
+    if !grid.has_block(block_row, block_col) {
         return 6;
     }
     let row = block_row as usize;
@@ -54,22 +47,10 @@ fn block_number(
         return 8;
     }
     let plane = grid.actual_rows(row) * grid.actual_columns(column) * grid.sample_bytes();
-    if room / plane < band_count(grid.bands, all, bands) {
+    if !product_fits(band_count(grid.bands, all, bands), plane, room) {
         return 9;
     }
     0
-}
-
-// What a refused read answers.
-pub fn refused(number: u32) -> Shape
-    ensures { λ r. ⌜ r ≡ noShape number ⌝ }
-{
-    Shape {
-        number,
-        bands: 0,
-        rows: 0,
-        columns: 0,
-    }
 }
 
 // The samples of a block: the bands asked for, row by row, each sample in its big-endian bytes.
@@ -83,7 +64,9 @@ pub fn decode_block(
     bands: &[u32],
     out: &mut [u8],
 ) -> Shape
-    ensures { λ r. ⌜ _≡_ {A = Filled} (record { shape = r; out = now (out .exit) }) (blockRead grid (now (image .entry)) «block_row» «block_col» «resolution_level» (bandsOf all (now (bands .entry))) (now (out .entry))) ⌝ }
+    ensures { λ r. ⌜ filledWith r (now (out .exit))
+        ≡ blockRead grid (now (image .entry)) «block_row» «block_col» «resolution_level»
+        (bandsOf all (now (bands .entry))) (now (out .entry)) ⌝ }
 {
     let number = block_number(
         image.len(),
@@ -98,16 +81,12 @@ pub fn decode_block(
     if number != 0 {
         return refused(number);
     }
-    let row = block_row as usize;
-    let column = block_col as usize;
-    let rows = grid.actual_rows(row);
-    let columns = grid.actual_columns(column);
-    let part = whole_part(row, column, rows, columns);
-    read_part(image, grid, part, all, bands, rows, columns, out);
+    let layout = grid.block_layout(block_row as usize, block_col as usize);
+    read_planes(image, layout, all, bands, out);
     Shape {
         number: 0,
         bands: band_count(grid.bands, all, bands),
-        rows,
-        columns,
+        rows: layout.rows,
+        columns: layout.columns,
     }
 }

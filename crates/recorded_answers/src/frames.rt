@@ -14,7 +14,7 @@ use crate::parts::product;
 use crate::parts::sum;
 use crate::parts::wide;
 use crate::records::Record;
-use frame::Answer;
+use calls::Answer;
 
 // An answer of a call that has so many values.
 fn given_of(a: Answer, count: usize) -> Given {

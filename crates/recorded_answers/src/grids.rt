@@ -3,7 +3,7 @@ use crate::parts::product;
 use crate::parts::sum;
 use crate::parts::word_at;
 use grid::Grid;
-use grid::InterleaveMode;
+use layout::InterleaveMode;
 
 // Is IMODE B, P, R or S in the grid that stands at `at`?
 pub fn is_mode(data: &[u8], at: usize) -> bool {

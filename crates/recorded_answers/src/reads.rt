@@ -7,7 +7,7 @@ use crate::grids::sample_bytes;
 use crate::parts::product;
 use crate::parts::words_part;
 use crate::records::Record;
-use frame::Shape;
+use calls::Shape;
 
 // The bytes of an answer's samples, of so many bytes each.
 fn shape_bytes(s: Shape, size: usize) -> usize {

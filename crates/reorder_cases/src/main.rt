@@ -1,7 +1,8 @@
 // Reorders a picture of 2 rows, 2 columns and three bands in every mode, at samples of 1 to 8 bytes.
-// The orders are those of the module comment of the original's interleave.rs; tools/expected_reorderings.py has them too.
-use grid::InterleaveMode;
+// The orders are those of the module comment of the original's interleave.rs; tools/expected_reorderings.py has them
+// too.
 use interleave::Reordered;
+use layout::InterleaveMode;
 use printing::print_bytes;
 use printing::print_letter;
 use printing::print_number;

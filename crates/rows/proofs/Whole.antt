@@ -1,35 +1,71 @@
--- Rows of samples that stand side by side in whole bytes are rows of bytes.
+-- Laws of rows of samples of whole bytes.
 -- Assumes nothing.
-use Prim.Native.Nat.{ℕ, zero, suc, _+_, _-_, _*_, _/_, _%_, _≤_, _<_}
-use mathlib.Core.Path.{_≡_, refl, ap, ap₂, _∙_}
+use Prim.Native.Nat.{ℕ, zero, suc, _+_, _-_, _*_, _/_, _≤_, _<_}
+use mathlib.Core.Path.{_≡_, refl, sym, ap, _∙_}
 use mathlib.Core.List.{List}
 use native.Mathlib.Omega.{arith}
-use native.Mathlib.Nat.{suc-mul}
-use lib.ListN.{length}
-use Rattle.bits.specs.Bits.{Bytes}
-use Rattle.bits.specs.Over.{over}
-use Rattle.bits.specs.Turns.{iter}
-use Rattle.bits.proofs.Turns.{iter-none, iter-turn, iter-steps, iter-ext}
-use Rattle.samples.specs.Samples.{values, spaced, sideBySide, putSpaced}
-use Rattle.samples.proofs.Samples.{length-putSpaced, putSpaced-bytes}
-use Rattle.samples.proofs.Moves.{whole, gathered-run, scattered-run}
-use Rattle.rows.specs.Rows.{Movable, rowCopied, rowRead, rowWritten}
+use native.Mathlib.Nat.{suc-mul, mul-le-mul-right}
+use lib.ListN.{length, take, drop}
+use Rattle.bits.specs.Bits.{Bytes, bitsAt}
+use Rattle.common.specs.Over.{over}
+use Rattle.common.specs.Turns.{iter}
+use Rattle.bits.proofs.Bits.{within}
+use Rattle.common.proofs.Turns.{iter-none, iter-turn, iter-steps, iter-ext}
+use Rattle.bits.specs.Values.{values, sideBySide}
+use Rattle.samples.specs.Internal.Samples.{spaced, putSpaced}
+use Rattle.samples.proofs.Samples.{length-putSpaced, putSpaced-bytes, putSpaced-ext}
+use Rattle.samples.proofs.Moves.{whole, gathered-run, spaced-bytes, putSpaced-run}
+use Rattle.bits.proofs.Values.{values-none, values-run}
+use Rattle.rows.specs.Internal.Rows.{Movable, rowRead, wholeRows, rowWritten}
 
 -- where m rows end, by the last of them
 pub last-row : (m x : ℕ) → 0 < m → m * x ≡ (m - 1) * x + x
 last-row zero x h = absurd (omega arith)
 last-row (suc m) x h = suc-mul m x ∙ ap (λ (y : ℕ). y * x + x) (let e : m ≡ suc m - 1 = omega arith in e)
 
--- row i of m rows of samples of w bits, which are s bytes, side by side in n bytes
-pub record WholeRow (n at row s count i : ℕ) : Type 0 where
-  pub start : 8 * (at / 8 + i * (row / 8)) ≡ at + i * row
-  pub inside : at / 8 + i * (row / 8) + count * s ≤ n
+-- ---- rows copied
 
-module _ (n at row w s count m : ℕ) (e : w ≡ 8 * s) (rows : (i : ℕ) → i < m → Movable n (at + i * row) w w s count) where
-  pub whole-row : (i : ℕ) → i < m → WholeRow n at row s count i
-  whole-row i h =
+-- row i
+pub copied-row : (xs : List ℕ) (at row s count i o : ℕ) (d : List ℕ) {zs : List ℕ} → Bytes xs → at + i * row + count * s ≤ length xs
+    → zs ≡ over d o (take (count * s) (drop (at + i * row) xs)) → zs ≡ over d o (values (spaced xs (8 * at + i * (8 * row)) (8 * s) (8 * s)) s count)
+copied-row xs at row s count i o d b reach ez =
+    gathered-run xs (at + i * row) s count d o b reach ez
+    ∙ ap (λ (x : ℕ). over d o (values (spaced xs x (8 * s) (8 * s)) s count)) (omega arith)
+
+-- m rows of `count` samples that follow each other on both sides
+pub copied-rows : (xs : List ℕ) (at s count to m : ℕ) (d : List ℕ) {row line n : ℕ} {zs : List ℕ} → Bytes xs → n ≡ count * s → row ≡ n → line ≡ n
+    → at + m * n ≤ length xs → to + m * n ≤ length d → zs ≡ over d to (take (m * n) (drop at xs)) → zs ≡ wholeRows xs at row s s count to line m d
+unfolding spaced
+copied-rows xs at s count to m d {row} {line} {n} {zs} b en er el reach room ez =
+    gathered-run xs at s (m * count) d to b (omega (arith, ap (λ (x : ℕ). m * x) en)) (ez ∙ ap (λ (x : ℕ). over d to (take x (drop at xs))) size)
+    ∙ sym (rw (er, el, en)
+    (iter-steps (λ i z. z ≡ over d to (values (spaced xs (8 * at) (8 * s) (8 * s)) s (i * count))) m
+    (rowRead xs (8 * at) (8 * (count * s)) (8 * s) (8 * s) s count to (count * s)) d
+    (λ i h z e.
+    let k = mul-le-mul-right s (within i m count h) in
+    let q : (i + 1) * count ≡ i * count + count = omega arith in
+    let o : to + i * (count * s) ≡ to + i * count * s = omega arith in
+    rw q
+    (values-run (spaced xs (8 * at) (8 * s) (8 * s)) (spaced xs (8 * at + i * (8 * (count * s))) (8 * s) (8 * s)) s d to (i * count) count
+    (omega (arith, ap (λ (x : ℕ). m * x) en)) e
+    (ap (λ (x : ℕ). over z x (values (spaced xs (8 * at + i * (8 * (count * s))) (8 * s) (8 * s)) s count)) o) (λ j l. ap (λ (x : ℕ). bitsAt xs x (8 * s)) (omega arith))))
+    (rw (let z : 0 * count ≡ 0 = omega arith in z) (values-none _ s d to))))
+  where
+    size : m * n ≡ m * count * s
+    size = rw en (omega arith)
+
+-- ---- rows in an image
+
+-- row i of rows of samples of s whole bytes, side by side in n bytes
+record WholeRow (n at row s count i : ℕ) : Type 0 where
+  start : 8 * (at / 8 + i * (row / 8)) ≡ at + i * row
+  inside : at / 8 + i * (row / 8) + count * s ≤ n
+
+module _ (n at row step w s count m : ℕ) (e : w ≡ 8 * s) (es : step ≡ w) where
+  whole-row : ((i : ℕ) → i < m → Movable n (at + i * row) step w s count) → (i : ℕ) → i < m → WholeRow n at row s count i
+  whole-row rows i h =
       let z : 8 * (at / 8 + i * (row / 8)) ≡ at + i * row = go i h in
-      let c : count * w ≡ 8 * (count * s) = ap (λ (x : ℕ). count * x) e ∙ omega arith in
+      let c : count * step ≡ 8 * (count * s) = ap (λ (x : ℕ). count * x) (es ∙ e) ∙ omega arith in
       record { start = z; inside = omega (arith, rows i h .inside) }
     where
       go : (i : ℕ) → i < m → 8 * (at / 8 + i * (row / 8)) ≡ at + i * row
@@ -37,35 +73,44 @@ module _ (n at row w s count m : ℕ) (e : w ≡ 8 * s) (rows : (i : ℕ) → i 
       go (suc i) h =
           let f = rows 0 (omega arith) .whole e .0 in
           let g = rows 1 (omega arith) .whole e .0 in
-          let x = whole at row (suc i) (omega arith, omega arith) in
-          omega (arith, x)
+          omega (arith, whole at row (suc i) (omega arith, omega arith))
 
-  -- read
-  pub rows-read : (xs : List ℕ) (to line : ℕ) (d : List ℕ) → Bytes xs → n ≤ length xs
-      → iter m (rowCopied xs (at / 8) (row / 8) (count * s) to line) d ≡ iter m (rowRead xs at row w w s count to line) d
-  rows-read xs to line d b fits =
-      iter-ext m (rowCopied xs (at / 8) (row / 8) (count * s) to line) (rowRead xs at row w w s count to line) d
-      (λ i h x.
-      let r = whole-row i h in
-      gathered-run xs (at / 8 + i * (row / 8)) s count x (to + i * line) b (omega (arith, r .inside)) refl
-      ∙ ap₂ (λ (p q : ℕ). over x (to + i * line) (values (spaced xs p q q) s count)) (r .start) (let o : 8 * s ≡ w = omega arith in o))
+  -- they end inside
+  pub rows-end : 0 < m → ((i : ℕ) → i < m → Movable n (at + i * row) step w s count) → at / 8 + m * (row / 8) + count * s ≤ n + row / 8
+  rows-end some rows = omega (arith, last-row m (row / 8) some, whole-row rows (m - 1) (omega arith) .inside)
 
-  -- written
-  pub rows-written : (dat : List ℕ) (from line : ℕ) (d : List ℕ) → Bytes dat → Bytes d → n ≤ length d → ((i : ℕ) → i < m → from + i * line + count * s ≤ length dat)
-      → iter m (rowCopied dat from line (count * s) (at / 8) (row / 8)) d ≡ iter m (rowWritten dat from line s w at row w count) d
-  rows-written dat from line d bt bd fits ends =
-      iter-steps (λ i x. (x ≡ iter i (rowWritten dat from line s w at row w count) d) × (length x ≡ length d) × Bytes x) m
-      (rowCopied dat from line (count * s) (at / 8) (row / 8)) d turn (iter-none _ d, refl, bd) .0
-    where
-      turn : (i : ℕ) → i < m → (x : List ℕ) → (x ≡ iter i (rowWritten dat from line s w at row w count) d) × (length x ≡ length d) × Bytes x
-          → let y = rowCopied dat from line (count * s) (at / 8) (row / 8) i x in
-          (y ≡ iter (i + 1) (rowWritten dat from line s w at row w count) d) × (length y ≡ length d) × Bytes y
-      turn i h x p =
-          let r = whole-row i h in
-          let q : rowCopied dat from line (count * s) (at / 8) (row / 8) i x ≡ rowWritten dat from line s w at row w count i x
-          = scattered-run dat (from + i * line) (at / 8 + i * (row / 8)) s count x bt (p .2) (ends i h) (omega (arith, r .inside)) refl
-          ∙ ap₂ (λ (a b : ℕ). putSpaced (sideBySide dat (from + i * line) s) b a b count x) (r .start) (let o : 8 * s ≡ w = omega arith in o) in (
-            iter-turn (rowWritten dat from line s w at row w count) d i (p .0) q,
-            ap length q ∙ length-putSpaced _ w (at + i * row) w count x ∙ p .1,
-            rw q (putSpaced-bytes _ w (at + i * row) w count x (p .2)),
-          )
+  module _ (rows : (i : ℕ) → i < m → Movable n (at + i * row) step w s count) where
+    -- read
+    pub rows-read : (xs : List ℕ) (to line : ℕ) (d : List ℕ) {zs : List ℕ} → zs ≡ wholeRows xs (at / 8) (row / 8) s s count to line m d
+        → zs ≡ iter m (rowRead xs at row step w s count to line) d
+    rows-read xs to line d ez =
+        ez ∙ iter-ext m _ _ d (λ i h x.
+        let o : 8 * (at / 8) + i * (8 * (row / 8)) ≡ at + i * row = omega (arith, whole-row rows i h .start) in
+        rw (o, es, e) refl)
+
+    -- written
+    pub rows-written : (dat : List ℕ) (from line : ℕ) (d : List ℕ) {zs : List ℕ} → Bytes dat → Bytes d → n ≤ length d
+        → zs ≡ wholeRows dat from line s s count (at / 8) (row / 8) m d → zs ≡ iter m (rowWritten dat from line s w at row step count) d
+    unfolding sideBySide
+    rows-written dat from line d bt bd fits ez =
+        ez
+        ∙ iter-steps (λ i x. (x ≡ iter i (rowWritten dat from line s w at row step count) d) × (length x ≡ length d) × Bytes x) m
+        (rowRead dat (8 * from) (8 * line) (8 * s) (8 * s) s count (at / 8) (row / 8)) d turn (iter-none _ d, refl, bd) .0
+      where
+        turn : (i : ℕ) → i < m → (x : List ℕ) → (x ≡ iter i (rowWritten dat from line s w at row step count) d) × (length x ≡ length d) × Bytes x
+            → let y = rowRead dat (8 * from) (8 * line) (8 * s) (8 * s) s count (at / 8) (row / 8) i x in
+            (y ≡ iter (i + 1) (rowWritten dat from line s w at row step count) d) × (length y ≡ length d) × Bytes y
+        turn i h x p =
+            let r = whole-row rows i h in
+            let put : ℕ = at / 8 + i * (row / 8) in
+            let v : ℕ → ℕ = spaced dat (8 * from + i * (8 * line)) (8 * s) (8 * s) in
+            let o : 8 * from + i * (8 * line) ≡ 8 * (from + i * line) = omega arith in
+            let q : over x put (values v s count) ≡ putSpaced (sideBySide dat (from + i * line) s) w (at + i * row) step count x
+            = putSpaced-run v s put count x (p .2) (omega (arith, r .inside))
+            ∙ putSpaced-ext v (sideBySide dat (from + i * line) s) (8 * s) (8 * put) (8 * s) count x
+            (λ k l. ap (λ (z : ℕ). spaced dat z (8 * s) (8 * s) k) o ∙ sym (spaced-bytes dat (from + i * line) s s k bt))
+            ∙ rw (r .start, es, e) refl in (
+              iter-turn (rowWritten dat from line s w at row step count) d i (p .0) q,
+              ap length q ∙ length-putSpaced _ w (at + i * row) step count x ∙ p .1,
+              rw q (putSpaced-bytes _ w (at + i * row) step count x (p .2)),
+            )

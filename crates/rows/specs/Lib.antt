@@ -1,2 +1,2 @@
 -- The definitions of `rows`.
-pub mod Rows
+pub mod Internal

@@ -2,12 +2,13 @@
 ghost use mathlib.Core.Path.{_≡_};
 ghost use Prim.Native.Nat.{ℕ, _+_, _*_, _≤_, _<_};
 ghost use lib.ListN.{length, getD};
-ghost use Rattle.bits.specs.Turns.{iter};
-ghost use Rattle.rows.specs.Rows.{sampleRead, pixelRead};
-use samples::bytes::get_be;
-use samples::bytes::put_be;
+ghost use Rattle.common.specs.Turns.{iter};
+ghost use Rattle.rows.specs.Internal.Rows.{sampleRead, pixelRead};
+use bits::bytes::get_be;
+use bits::bytes::put_be;
 
-// The listed bands of the pixel at index `at` of `src`, in samples of `size` bytes, `band` bytes apart. They go to index `to` of `out` on, `plane` bytes apart.
+// The listed bands of the pixel at index `at` of `src`, in samples of `size` bytes, `band` bytes apart. They go to
+// index `to` of `out` on, `plane` bytes apart.
 fn gather_pixel(
     src: &[u8],
     at: usize,
@@ -18,8 +19,11 @@ fn gather_pixel(
     to: usize,
     plane: usize,
 )
-    requires { ⌜ (size ≤ 8) × (((k : ℕ) → k < length (now list) → at + getD (now list) k 0 * band + size ≤ length (now src))) × (to + length (now list) * plane + size ≤ length (now out) + plane) ⌝ }
-    ensures { λ _. ⌜ now (out .exit) ≡ iter (length (now (list .entry))) (sampleRead (now (src .entry)) (now (list .entry)) at band size to plane) (now (out .entry)) ⌝ }
+    requires { ⌜ (size ≤ 8)
+        × (((k : ℕ) → k < length (now list) → at + getD (now list) k 0 * band + size ≤ length (now src)))
+        × (to + length (now list) * plane + size ≤ length (now out) + plane) ⌝ }
+    ensures { λ _. ⌜ now (out .exit) ≡ iter (length (now (list .entry)))
+        (sampleRead (now (src .entry)) (now (list .entry)) at band size to plane) (now (out .entry)) ⌝ }
 {
     for k in 0..list.len() {
         let v = get_be(src, at + list[k] as usize * band, size);
@@ -27,7 +31,8 @@ fn gather_pixel(
     }
 }
 
-// The listed bands of `count` pixels, which start `pixel` bytes apart from index `at` of `src` on. A band's samples go side by side to `out`.
+// The listed bands of `count` pixels, which start `pixel` bytes apart from index `at` of `src` on. A band's samples go
+// side by side to `out`.
 fn gather_listed_any(
     src: &[u8],
     at: usize,
@@ -40,8 +45,12 @@ fn gather_listed_any(
     to: usize,
     plane: usize,
 )
-    requires { ⌜ (size ≤ 8) × (0 < length (now list)) × (((k : ℕ) → k < length (now list) → at + getD (now list) k 0 * band + count * pixel + size ≤ length (now src) + pixel)) × (to + length (now list) * plane + count * size ≤ length (now out) + plane) ⌝ }
-    ensures { λ _. ⌜ now (out .exit) ≡ iter count (pixelRead (now (src .entry)) (now (list .entry)) at pixel band size to plane) (now (out .entry)) ⌝ }
+    requires { ⌜ (size ≤ 8) × (0 < length (now list)) ×
+        (((k : ℕ) → k < length (now list)
+        → at + getD (now list) k 0 * band + count * pixel + size ≤ length (now src) + pixel))
+        × (to + length (now list) * plane + count * size ≤ length (now out) + plane) ⌝ }
+    ensures { λ _. ⌜ now (out .exit) ≡ iter count
+        (pixelRead (now (src .entry)) (now (list .entry)) at pixel band size to plane) (now (out .entry)) ⌝ }
 {
     for c in 0..count {
         gather_pixel(
@@ -70,8 +79,12 @@ pub fn gather_listed(
     to: usize,
     plane: usize,
 )
-    requires { ⌜ (size ≤ 8) × (0 < length (now list)) × (((k : ℕ) → k < length (now list) → at + getD (now list) k 0 * band + count * pixel + size ≤ length (now src) + pixel)) × (to + length (now list) * plane + count * size ≤ length (now out) + plane) ⌝ }
-    ensures { λ _. ⌜ now (out .exit) ≡ iter count (pixelRead (now (src .entry)) (now (list .entry)) at pixel band size to plane) (now (out .entry)) ⌝ }
+    requires { ⌜ (size ≤ 8) × (0 < length (now list)) ×
+        (((k : ℕ) → k < length (now list)
+        → at + getD (now list) k 0 * band + count * pixel + size ≤ length (now src) + pixel))
+        × (to + length (now list) * plane + count * size ≤ length (now out) + plane) ⌝ }
+    ensures { λ _. ⌜ now (out .exit) ≡ iter count
+        (pixelRead (now (src .entry)) (now (list .entry)) at pixel band size to plane) (now (out .entry)) ⌝ }
 {
     match size {
         1 => gather_listed_any(src, at, pixel, band, 1, list, count, out, to, plane),

@@ -10,12 +10,13 @@ use lib.ListN.{length}
 use lib.Arith.{digits-lt}
 use lib.Pow.{pow-pos, pow-add, high, low}
 use Rattle.bits.specs.Bits.{Bytes, putBits, beAt, beBytes}
-use Rattle.bits.specs.Over.{over}
+use Rattle.common.specs.Over.{over}
 use Rattle.bits.proofs.Bits.{putBits-add, next-sample}
-use Rattle.bits.proofs.Bytes.{putBits-bytes}
+use Rattle.bits.proofs.BigEndian.{putBits-bytes}
 use Rattle.bits.proofs.Joined.{putBits-low}
-use Rattle.samples.specs.Samples.{sideBySide, putSpaced}
-use Rattle.samples.specs.Groups.{joined}
+use Rattle.bits.specs.Values.{sideBySide}
+use Rattle.samples.specs.Internal.Samples.{putSpaced}
+use Rattle.samples.specs.Internal.Groups.{joined}
 use Rattle.samples.proofs.Samples.{length-putSpaced, putSpaced-bytes, putSpaced-ext}
 use Rattle.samples.proofs.Moves.{putSpaced-none}
 

@@ -1,21 +1,23 @@
 -- Laws of the moves: whole bytes as bits, samples side by side as one run, and a turn of each kind of loop.
 -- Assumes nothing.
-use mathlib.Core.Path.{_≡_, refl, sym, ap, ap₂, _∙_}
-use mathlib.Core.List.{List, [], _∷_, _++_}
+use mathlib.Core.Path.{_≡_, refl, sym, ap, _∙_}
+use mathlib.Core.List.{List}
 use Prim.Native.Nat.{ℕ, zero, suc, _+_, _-_, _*_, _/_, _%_, _^_, _≤_, _<_}
-use native.Mathlib.Nat.{mul-left-comm, suc-mul, zero-mul}
+use native.Mathlib.Nat.{mul-left-comm, mul-le-mul-right, suc-mul}
+use native.Mathlib.Decide.{decLt}
 use native.Mathlib.Numerals.{add-one}
 use native.Mathlib.Omega.{arith}
-use lib.ListN.{length, getD, take, drop, length-drop}
-use lib.Seq.{take-suc, take-add, drop-drop, getD-drop}
+use lib.ListN.{length, take, drop}
 use lib.Pow.{high, low}
 use Rattle.bits.specs.Bits.{Bytes, bitsAt, putBits, beAt, beBytes}
-use Rattle.bits.specs.Over.{over}
+use Rattle.common.specs.Over.{over}
 use Rattle.bits.proofs.Bits.{within, bitsAt-add, bitsAt-lt}
-use Rattle.bits.proofs.Bytes.{length-beBytes, bitsAt-bytes, putBits-bytes}
-use Rattle.bits.proofs.Over.{over-none, over-over}
-use Rattle.samples.specs.Samples.{values, spaced, sideBySide, putSpaced}
-use Rattle.samples.proofs.Samples.{length-values, values-next, values-ext, values-add, length-putSpaced, putSpaced-bytes}
+use Rattle.bits.proofs.BigEndian.{bitsAt-bytes, putBits-bytes}
+use Rattle.common.proofs.Over.{over-none}
+use Rattle.bits.specs.Values.{values, sideBySide}
+use Rattle.samples.specs.Internal.Samples.{spaced, putSpaced}
+use Rattle.bits.proofs.Values.{values-ext, next-over, side-by-side}
+use Rattle.samples.proofs.Samples.{length-putSpaced, putSpaced-bytes}
 
 -- ---- whole bytes
 
@@ -68,32 +70,27 @@ Ends k count m n = (k * m + m ≤ count * m) × (k * n + n ≤ count * n)
 pub ends : (k count m n : ℕ) → k < count → Ends k count m n
 ends k count m n h = (within k count m h, within k count n h)
 
-pub values-none : (v : ℕ → ℕ) (s : ℕ) (d : List ℕ) (o : ℕ) → d ≡ over d o (values v s 0)
-unfolding values
-values-none v s d o = sym (over-none d o)
+-- the same said of k = count too, where the last term is no less than a step; below count it is 0
+abbrev pub Room-left : ℕ → ℕ → ℕ → ℕ → Type 0
+Room-left k count m n = (k * m + m ≤ count * m + 2 ^ 67 * (k + 1 - count)) × (k * n + n ≤ count * n + 2 ^ 67 * (k + 1 - count))
 
--- one more sample, right after the k before
-next-over : (v : ℕ → ℕ) (s : ℕ) (d : List ℕ) (o k : ℕ) → o + (k * s + s) ≤ length d → over (over d o (values v s k)) (o + k * s) (beBytes s (v k)) ≡ over d o (values v s (k + 1))
-next-over v s d o k h =
-    let L : length (values v s k) ≡ k * s = length-values v s k in
-    let B : length (beBytes s (v k)) ≡ s = length-beBytes s (v k) in
-    rw values-next
-    (ap (λ (a : ℕ). over (over d o (values v s k)) (o + a) (beBytes s (v k))) (sym L) ∙ over-over d o (values v s k) (beBytes s (v k)) (omega arith))
+pub room-left : (k count m n : ℕ) → (k ≤ count) × (m ≤ 2 ^ 67) × (n ≤ 2 ^ 67) → Room-left k count m n
+room-left k count m n h = go (decLt k count)
+  where
+    go : Dec (k < count) → Room-left k count m n
+    go (yes l) = omega (arith, ends k count m n l)
+    go (no l) = omega (arith, mul-le-mul-right m (h .0), mul-le-mul-right n (h .0))
 
-pub values-turn : (v : ℕ → ℕ) (s : ℕ) (d : List ℕ) (o k : ℕ) {x : ℕ} {ys zs : List ℕ} → o + (k * s + s) ≤ length d → ys ≡ over d o (values v s k) → x ≡ v k
-    → zs ≡ over ys (o + k * s) (beBytes s x) → zs ≡ over d o (values v s (k + 1))
-values-turn v s d o k h ey ex ez = rw (ez, ex, ey) (next-over v s d o k h)
+-- after k turns of a loop ys is ws, and its length is still l
+abbrev pub So-far : (ws ys : List ℕ) (l count m n k : ℕ) → Type 0
+So-far ws ys l count m n k = (k ≤ count) × (ys ≡ ws) × (length ys ≡ l) × Room-left k count m n
 
--- n more samples, right after the k before
-pub values-run : (v w : ℕ → ℕ) (s : ℕ) (d : List ℕ) (o k n : ℕ) {ys zs : List ℕ} → o + k * s + n * s ≤ length d → ys ≡ over d o (values v s k)
-    → zs ≡ over ys (o + k * s) (values w s n) → ((j : ℕ) → j < n → w j ≡ v (k + j)) → zs ≡ over d o (values v s (k + n))
-values-run v w s d o k n h ey ez right =
-    let L : length (values v s k) ≡ k * s = length-values v s k in
-    let N : length (values (λ j. v (k + j)) s n) ≡ n * s = length-values (λ j. v (k + j)) s n in
-    ez ∙ ap₂ (λ (y : List ℕ) (vs : List ℕ). over y (o + k * s) vs) ey (values-ext w (λ j. v (k + j)) s n right)
-    ∙ ap (λ (a : ℕ). over (over d o (values v s k)) (o + a) (values (λ j. v (k + j)) s n)) (sym L)
-    ∙ over-over d o (values v s k) (values (λ j. v (k + j)) s n) (omega arith)
-    ∙ ap (over d o) (sym (values-add v s k n))
+pub none-yet : {ws ys : List ℕ} {count m n : ℕ} → (m ≤ 2 ^ 67) × (n ≤ 2 ^ 67) → ys ≡ ws → So-far ws ys (length ys) count m n 0
+none-yet {count} {m} {n} h e = (omega arith, e, refl, room-left 0 count m n (omega arith))
+
+pub one-more : {vs ws ys zs : List ℕ} {l count m n k : ℕ} → So-far vs ys l count m n k → (k < count) × (m ≤ 2 ^ 67) × (n ≤ 2 ^ 67) × (length zs ≡ length ys)
+    → zs ≡ ws → So-far ws zs l count m n (k + 1)
+one-more {count} {m} {n} {k} i h e = (omega arith, e, omega arith, room-left (k + 1) count m n (omega arith))
 
 pub putSpaced-none : (v : ℕ → ℕ) (width p step : ℕ) (d : List ℕ) → d ≡ putSpaced v width p step 0 d
 unfolding putSpaced
@@ -115,25 +112,6 @@ put-turn v size at step d k {x} {ys} b h ey ex ez =
     (ez ∙ put-bytes ys at step size k x by (omega (arith, ap length ey, length-putSpaced v (8 * size) (8 * at) (8 * step) k d)))
 
 -- ---- samples side by side
-
--- the bytes of a number read from bytes are those bytes
-pub beBytes-beAt : (xs : List ℕ) (p s : ℕ) → Bytes xs → p + s ≤ length xs → beBytes s (beAt xs p s) ≡ take s (drop p xs)
-unfolding beBytes beAt
-beBytes-beAt xs p zero b h = refl
-beBytes-beAt xs p (suc s) b h =
-    let x< : getD xs (p + s) 0 < 256 = b (p + s) in
-    let q : (beAt xs p s * 256 + getD xs (p + s) 0) / 256 ≡ beAt xs p s = omega arith in
-    let m : (beAt xs p s * 256 + getD xs (p + s) 0) % 256 ≡ getD xs (p + s) 0 = omega arith in
-    ap₂ (λ (l : List ℕ) (x : ℕ). l ++ (x ∷ [])) (ap (beBytes s) q ∙ beBytes-beAt xs p s b (omega arith)) (m ∙ sym (getD-drop p xs s 0))
-    ∙ sym (take-suc (drop p xs) s 0 (omega (arith, length-drop p xs)))
-
-pub side-by-side : (xs : List ℕ) (from s n : ℕ) → Bytes xs → from + n * s ≤ length xs → values (sideBySide xs from s) s n ≡ take (n * s) (drop from xs)
-unfolding values sideBySide
-side-by-side xs from s zero b h = sym (ap (λ (a : ℕ). take a (drop from xs)) (zero-mul s))
-side-by-side xs from s (suc n) b h =
-    let e : suc n * s ≡ n * s + s = suc-mul n s in
-    ap₂ _++_ (side-by-side xs from s n b (omega arith)) (beBytes-beAt xs (from + n * s) s b (omega arith) ∙ ap (take s) (sym (drop-drop (n * s) from xs)))
-    ∙ sym (take-add (n * s) s (drop from xs)) ∙ ap (λ (a : ℕ). take a (drop from xs)) (sym e)
 
 -- one run read
 pub gathered-run : (xs : List ℕ) (at s n : ℕ) (d : List ℕ) (to : ℕ) {zs : List ℕ} → Bytes xs → at + n * s ≤ length xs → zs ≡ over d to (take (n * s) (drop at xs))

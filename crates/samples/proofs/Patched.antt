@@ -14,13 +14,14 @@ use lib.Seq.{ext-getD, getD-at}
 use lib.Arith.{digits-lt}
 use borrow.Author.Tests.{lt-ltb, le-ltb, le-leb, lt-leb}
 use Rattle.bits.specs.Bits.{beBytes}
-use Rattle.bits.specs.Over.{over}
-use Rattle.bits.proofs.Over.{length-over, getD-over-in, getD-over-before, getD-over-after}
-use Rattle.grid.specs.Questions.{pick}
-use Rattle.grid.proofs.Questions.{true-false, pick-yes, pick-no}
-use Rattle.samples.specs.Samples.{values}
-use Rattle.samples.specs.Patched.{tabulate, patched}
-use Rattle.samples.proofs.Samples.{length-values, getD-values}
+use Rattle.common.specs.Over.{over}
+use Rattle.common.proofs.Over.{length-over, getD-over-in, getD-over-before, getD-over-after}
+use Rattle.common.specs.Tests.{pick}
+use Rattle.common.proofs.Tests.{true-false, pick-yes, pick-no}
+use Rattle.bits.specs.Values.{values}
+use Rattle.common.specs.Lists.{tabulate}
+use Rattle.samples.specs.Internal.Patched.{patched}
+use Rattle.bits.proofs.Values.{length-values, getD-values}
 
 -- ---- lists told by their elements
 

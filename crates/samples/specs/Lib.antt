@@ -1,4 +1,2 @@
 -- The definitions of `samples`.
-pub mod Samples
-pub mod Patched
-pub mod Groups
+pub mod Internal

@@ -1,5 +1,4 @@
 // Samples moved along a row: out of an image into lent data, and back.
-pub mod bytes;
 mod pack;
 pub mod read;
 mod unpack;

@@ -3,10 +3,11 @@ ghost use mathlib.Core.Path.{_≡_};
 ghost use Prim.Native.Nat.{_+_, _-_, _*_, _/_, _%_, _^_, _≤_, _<_};
 ghost use lib.ListN.{length};
 ghost use Rattle.bits.specs.Bits.{putBits, withField};
-ghost use Rattle.samples.specs.Samples.{sideBySide, putSpaced};
-ghost use Rattle.samples.specs.Groups.{joined};
-use crate::bytes::get_be;
-use crate::bytes::put_be;
+ghost use Rattle.bits.specs.Values.{sideBySide};
+ghost use Rattle.samples.specs.Internal.Samples.{samplesWritten};
+ghost use Rattle.samples.specs.Internal.Groups.{joined};
+use bits::bytes::get_be;
+use bits::bytes::put_be;
 
 // x followed by the low `width` bits of v.
 fn append(x: u64, width: usize, v: u64) -> u64
@@ -34,7 +35,8 @@ fn put_packed(img: &mut [u8], at: usize, width: usize, n: usize, v: u64)
     put_be(img, i, n, exchange(x, 8 * n - at % 8 - width, width, v));
 }
 
-// Samples of `size` bytes, side by side from index `from` of `dat` on: their low `width` bits into `img`, one every `step` bits from bit `at` on.
+// Samples of `size` bytes, side by side from index `from` of `dat` on: their low `width` bits into `img`, one every
+// `step` bits from bit `at` on.
 fn pack_by_bits(
     dat: &[u8],
     from: usize,
@@ -47,7 +49,8 @@ fn pack_by_bits(
 )
     requires { ⌜ (width ≤ 64) × (size ≤ 8) × (from + count * size ≤ length (now dat)) ⌝ }
     requires { ⌜ (at + count * step + width < 2 ^ 63) × (at + count * step + width ≤ 8 * length (now img) + step) ⌝ }
-    ensures { λ _. ⌜ now (img .exit) ≡ putSpaced (sideBySide (now (dat .entry)) from size) width at step count (now (img .entry)) ⌝ }
+    ensures { λ _. ⌜ now (img .exit)
+        ≡ samplesWritten (now (dat .entry)) from size width at step count (now (img .entry)) ⌝ }
 {
     for k in 0..count {
         let v = get_be(dat, from + k * size, size);
@@ -68,7 +71,8 @@ fn pack_by_bytes(
 )
     requires { ⌜ (width < 8 * size) × (size < 7) × (from + count * size ≤ length (now dat)) ⌝ }
     requires { ⌜ (at + count * step < 2 ^ 63) × ((at + count * step) / 8 + size < length (now img)) ⌝ }
-    ensures { λ _. ⌜ now (img .exit) ≡ putSpaced (sideBySide (now (dat .entry)) from size) width at step count (now (img .entry)) ⌝ }
+    ensures { λ _. ⌜ now (img .exit)
+        ≡ samplesWritten (now (dat .entry)) from size width at step count (now (img .entry)) ⌝ }
 {
     for k in 0..count {
         let v = get_be(dat, from + k * size, size);
@@ -76,7 +80,8 @@ fn pack_by_bytes(
     }
 }
 
-// The same: by bytes where those of every sample are inside `img`, with a loop of its own for each common size; else by bits.
+// The same: by bytes where those of every sample are inside `img`, with a loop of its own for each common size; else by
+// bits.
 fn pack_each(
     dat: &[u8],
     from: usize,
@@ -89,7 +94,8 @@ fn pack_each(
 )
     requires { ⌜ (width < 8 * size) × (size ≤ 8) × (from + count * size ≤ length (now dat)) ⌝ }
     requires { ⌜ (at + count * step + width < 2 ^ 63) × (at + count * step + width ≤ 8 * length (now img) + step) ⌝ }
-    ensures { λ _. ⌜ now (img .exit) ≡ putSpaced (sideBySide (now (dat .entry)) from size) width at step count (now (img .entry)) ⌝ }
+    ensures { λ _. ⌜ now (img .exit)
+        ≡ samplesWritten (now (dat .entry)) from size width at step count (now (img .entry)) ⌝ }
 {
     if (at + count * step) / 8 + size >= img.len() {
         pack_by_bits(dat, from, size, img, at, step, width, count);
@@ -116,7 +122,8 @@ fn join(dat: &[u8], from: usize, size: usize, width: usize, group: usize) -> u64
     acc
 }
 
-// n groups of samples, side by side in `dat`: their low `width` bits side by side into `img`, from index q on. A group fills `bytes` bytes.
+// n groups of samples, side by side in `dat`: their low `width` bits side by side into `img`, from index q on. A group
+// fills `bytes` bytes.
 fn pack_groups_any(
     dat: &[u8],
     from: usize,
@@ -130,7 +137,8 @@ fn pack_groups_any(
 )
     requires { ⌜ (size ≤ 8) × (width < 64) × (group * width ≡ 8 * bytes) × (bytes ≤ 8) ⌝ }
     requires { ⌜ (from + n * (group * size) ≤ length (now dat)) × (q + n * bytes ≤ length (now img)) ⌝ }
-    ensures { λ _. ⌜ now (img .exit) ≡ putSpaced (sideBySide (now (dat .entry)) from size) width (8 * q) width (n * group) (now (img .entry)) ⌝ }
+    ensures { λ _. ⌜ now (img .exit)
+        ≡ samplesWritten (now (dat .entry)) from size width (8 * q) width (n * group) (now (img .entry)) ⌝ }
 {
     for k in 0..n {
         let v = join(dat, from + k * (group * size), size, width, group);
@@ -152,7 +160,8 @@ fn pack_groups(
 )
     requires { ⌜ (size ≤ 8) × (width < 64) × (group * width ≡ 8 * bytes) × (bytes ≤ 8) ⌝ }
     requires { ⌜ (from + n * (group * size) ≤ length (now dat)) × (q + n * bytes ≤ length (now img)) ⌝ }
-    ensures { λ _. ⌜ now (img .exit) ≡ putSpaced (sideBySide (now (dat .entry)) from size) width (8 * q) width (n * group) (now (img .entry)) ⌝ }
+    ensures { λ _. ⌜ now (img .exit)
+        ≡ samplesWritten (now (dat .entry)) from size width (8 * q) width (n * group) (now (img .entry)) ⌝ }
 {
     if size == 2 && width == 12 && group == 2 {
         pack_groups_any(dat, from, 2, img, q, 12, 2, 3, n);
@@ -182,7 +191,8 @@ fn group_of(width: usize) -> usize
     }
 }
 
-// How many samples, side by side from bit `at` on, come before one that starts at a whole byte; all of them if none does.
+// How many samples, side by side from bit `at` on, come before one that starts at a whole byte; all of them if none
+// does.
 fn before_byte(at: usize, width: usize, count: usize) -> usize
     requires { ⌜ at + count * width < 2 ^ 63 ⌝ }
     ensures { λ r. ⌜ r ≤ count ⌝ }
@@ -194,7 +204,8 @@ fn before_byte(at: usize, width: usize, count: usize) -> usize
     k
 }
 
-// Samples side by side from bit `at` on: in groups where that is a whole byte and a group fits a number, and the rest one by one.
+// Samples side by side from bit `at` on: in groups where that is a whole byte and a group fits a number, and the rest
+// one by one.
 fn pack_grouped(
     dat: &[u8],
     from: usize,
@@ -206,7 +217,8 @@ fn pack_grouped(
 )
     requires { ⌜ (width < 8 * size) × (size ≤ 8) × (from + count * size ≤ length (now dat)) ⌝ }
     requires { ⌜ (at + count * width + width < 2 ^ 63) × (at + count * width ≤ 8 * length (now img)) ⌝ }
-    ensures { λ _. ⌜ now (img .exit) ≡ putSpaced (sideBySide (now (dat .entry)) from size) width at width count (now (img .entry)) ⌝ }
+    ensures { λ _. ⌜ now (img .exit)
+        ≡ samplesWritten (now (dat .entry)) from size width at width count (now (img .entry)) ⌝ }
 {
     let group = group_of(width);
     let bytes = group * width / 8;
@@ -241,7 +253,8 @@ fn pack_side_by_side(
 )
     requires { ⌜ (width < 8 * size) × (size ≤ 8) × (from + count * size ≤ length (now dat)) ⌝ }
     requires { ⌜ (at + count * width + width < 2 ^ 63) × (at + count * width ≤ 8 * length (now img)) ⌝ }
-    ensures { λ _. ⌜ now (img .exit) ≡ putSpaced (sideBySide (now (dat .entry)) from size) width at width count (now (img .entry)) ⌝ }
+    ensures { λ _. ⌜ now (img .exit)
+        ≡ samplesWritten (now (dat .entry)) from size width at width count (now (img .entry)) ⌝ }
 {
     let head = before_byte(at, width, count);
     pack_each(dat, from, size, img, at, width, width, head);
@@ -256,7 +269,8 @@ fn pack_side_by_side(
     );
 }
 
-// Samples of `size` bytes, side by side from index `from` of `dat` on: their low `width` bits into `img`, one every `step` bits from bit `at` on.
+// Samples of `size` bytes, side by side from index `from` of `dat` on: their low `width` bits into `img`, one every
+// `step` bits from bit `at` on.
 pub fn pack(
     dat: &[u8],
     from: usize,
@@ -269,7 +283,8 @@ pub fn pack(
 )
     requires { ⌜ (width < 8 * size) × (size ≤ 8) × (from + count * size ≤ length (now dat)) ⌝ }
     requires { ⌜ (at + count * step + width < 2 ^ 63) × (at + count * step + width ≤ 8 * length (now img) + step) ⌝ }
-    ensures { λ _. ⌜ now (img .exit) ≡ putSpaced (sideBySide (now (dat .entry)) from size) width at step count (now (img .entry)) ⌝ }
+    ensures { λ _. ⌜ now (img .exit)
+        ≡ samplesWritten (now (dat .entry)) from size width at step count (now (img .entry)) ⌝ }
 {
     if step == width {
         pack_side_by_side(dat, from, size, img, at, width, count)

@@ -3,10 +3,9 @@ ghost use mathlib.Core.Path.{_≡_};
 ghost use Prim.Native.Nat.{_+_, _*_, _/_, _%_, _^_, _≤_, _<_};
 ghost use lib.ListN.{length};
 ghost use Rattle.bits.specs.Bits.{bitsAt};
-ghost use Rattle.bits.specs.Over.{over};
-ghost use Rattle.samples.specs.Samples.{values, spaced};
-use crate::bytes::get_be;
-use crate::bytes::put_be;
+ghost use Rattle.samples.specs.Internal.Samples.{samplesRead};
+use bits::bytes::get_be;
+use bits::bytes::put_be;
 
 // The number in the `width` bits of `src` from bit `at` on, out of the eight bytes from its first on.
 fn get_by_eight(src: &[u8], at: usize, width: usize) -> u64
@@ -30,7 +29,8 @@ fn get_packed(src: &[u8], at: usize, width: usize) -> u64
     }
 }
 
-// Samples of `width` bits, one every `step` bits from bit `at` of `src` on, into `size` bytes each. Eight bytes are there for each:
+// Samples of `width` bits, one every `step` bits from bit `at` of `src` on, into `size` bytes each. Eight bytes are
+// there for each:
 // a test for them would make the loop too large to be compiled for each size apart.
 fn unpack_by_eight_any(
     src: &[u8],
@@ -43,8 +43,9 @@ fn unpack_by_eight_any(
     to: usize,
 )
     requires { ⌜ (width ≤ 57) × (size ≤ 8) × (at + count * step + width < 2 ^ 63) ⌝ }
-    requires { ⌜ ((0 < count → (at + count * step) / 8 + 8 ≤ length (now src))) × (to + count * size ≤ length (now out)) ⌝ }
-    ensures { λ _. ⌜ now (out .exit) ≡ over (now (out .entry)) to (values (spaced (now (src .entry)) at step width) size count) ⌝ }
+    requires { ⌜ ((0 < count → (at + count * step) / 8 + 8 ≤ length (now src)))
+        × (to + count * size ≤ length (now out)) ⌝ }
+    ensures { λ _. ⌜ now (out .exit) ≡ samplesRead (now (src .entry)) at step width size count to (now (out .entry)) ⌝ }
 {
     for k in 0..count {
         let v = get_by_eight(src, at + k * step, width);
@@ -64,8 +65,9 @@ fn unpack_by_eight(
     to: usize,
 )
     requires { ⌜ (width ≤ 57) × (size ≤ 8) × (at + count * step + width < 2 ^ 63) ⌝ }
-    requires { ⌜ ((0 < count → (at + count * step) / 8 + 8 ≤ length (now src))) × (to + count * size ≤ length (now out)) ⌝ }
-    ensures { λ _. ⌜ now (out .exit) ≡ over (now (out .entry)) to (values (spaced (now (src .entry)) at step width) size count) ⌝ }
+    requires { ⌜ ((0 < count → (at + count * step) / 8 + 8 ≤ length (now src)))
+        × (to + count * size ≤ length (now out)) ⌝ }
+    ensures { λ _. ⌜ now (out .exit) ≡ samplesRead (now (src .entry)) at step width size count to (now (out .entry)) ⌝ }
 {
     match size {
         1 => unpack_by_eight_any(src, at, step, width, 1, count, out, to),
@@ -88,7 +90,7 @@ fn unpack_rest(
 )
     requires { ⌜ (width ≤ 57) × (size ≤ 8) × (at + count * step + width < 2 ^ 63) ⌝ }
     requires { ⌜ (at + count * step + width ≤ 8 * length (now src) + step) × (to + count * size ≤ length (now out)) ⌝ }
-    ensures { λ _. ⌜ now (out .exit) ≡ over (now (out .entry)) to (values (spaced (now (src .entry)) at step width) size count) ⌝ }
+    ensures { λ _. ⌜ now (out .exit) ≡ samplesRead (now (src .entry)) at step width size count to (now (out .entry)) ⌝ }
 {
     for k in 0..count {
         let v = get_packed(src, at + k * step, width);
@@ -96,7 +98,8 @@ fn unpack_rest(
     }
 }
 
-// How many of `count` samples, one every `step` bits from bit `at` of `bytes` bytes on, are taken by eight bytes: all, all but the last 64, or none.
+// How many of `count` samples, one every `step` bits from bit `at` of `bytes` bytes on, are taken by eight bytes: all,
+// all but the last 64, or none.
 fn count_by_eight(bytes: usize, at: usize, step: usize, count: usize) -> usize
     requires { ⌜ at + count * step < 2 ^ 63 ⌝ }
     ensures { λ r. ⌜ (r ≤ count) × ((0 < r → (at + r * step) / 8 + 8 ≤ bytes)) ⌝ }
@@ -128,7 +131,7 @@ pub fn unpack(
 )
     requires { ⌜ (width ≤ 57) × (size ≤ 8) × (at + count * step + width < 2 ^ 63) ⌝ }
     requires { ⌜ (at + count * step + width ≤ 8 * length (now src) + step) × (to + count * size ≤ length (now out)) ⌝ }
-    ensures { λ _. ⌜ now (out .exit) ≡ over (now (out .entry)) to (values (spaced (now (src .entry)) at step width) size count) ⌝ }
+    ensures { λ _. ⌜ now (out .exit) ≡ samplesRead (now (src .entry)) at step width size count to (now (out .entry)) ⌝ }
 {
     let most = count_by_eight(src.len(), at, step, count);
     unpack_by_eight(src, at, step, width, size, most, out, to);

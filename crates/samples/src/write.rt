@@ -2,13 +2,14 @@
 ghost use mathlib.Core.Path.{_≡_};
 ghost use Prim.Native.Nat.{_+_, _*_, _%_, _^_, _≤_, _<_};
 ghost use lib.ListN.{length};
-ghost use Rattle.samples.specs.Samples.{sideBySide, putSpaced};
-use crate::bytes::copy;
-use crate::bytes::get_be;
-use crate::bytes::put_be;
+ghost use Rattle.samples.specs.Internal.Samples.{samplesWritten};
 use crate::pack::pack;
+use bits::bytes::copy;
+use bits::bytes::get_be;
+use bits::bytes::put_be;
 
-// Samples of `size` bytes, side by side from index `from` of `dat` on, into `img`, one every `step` bytes from index `at` on.
+// Samples of `size` bytes, side by side from index `from` of `dat` on, into `img`, one every `step` bytes from index
+// `at` on.
 fn scatter_any(
     dat: &[u8],
     from: usize,
@@ -18,8 +19,10 @@ fn scatter_any(
     step: usize,
     count: usize,
 )
-    requires { ⌜ (size ≤ 8) × (from + count * size ≤ length (now dat)) × (at + count * step + size ≤ length (now img) + step) ⌝ }
-    ensures { λ _. ⌜ now (img .exit) ≡ putSpaced (sideBySide (now (dat .entry)) from size) (8 * size) (8 * at) (8 * step) count (now (img .entry)) ⌝ }
+    requires { ⌜ (size ≤ 8) × (from + count * size ≤ length (now dat))
+        × (at + count * step + size ≤ length (now img) + step) ⌝ }
+    ensures { λ _. ⌜ now (img .exit)
+        ≡ samplesWritten (now (dat .entry)) from size (8 * size) (8 * at) (8 * step) count (now (img .entry)) ⌝ }
 {
     for k in 0..count {
         let v = get_be(dat, from + k * size, size);
@@ -37,8 +40,10 @@ fn scatter(
     step: usize,
     count: usize,
 )
-    requires { ⌜ (size ≤ 8) × (from + count * size ≤ length (now dat)) × (at + count * step + size ≤ length (now img) + step) ⌝ }
-    ensures { λ _. ⌜ now (img .exit) ≡ putSpaced (sideBySide (now (dat .entry)) from size) (8 * size) (8 * at) (8 * step) count (now (img .entry)) ⌝ }
+    requires { ⌜ (size ≤ 8) × (from + count * size ≤ length (now dat))
+        × (at + count * step + size ≤ length (now img) + step) ⌝ }
+    ensures { λ _. ⌜ now (img .exit)
+        ≡ samplesWritten (now (dat .entry)) from size (8 * size) (8 * at) (8 * step) count (now (img .entry)) ⌝ }
 {
     if step == size {
         copy(dat, from, count * size, img, at);
@@ -54,7 +59,8 @@ fn scatter(
     }
 }
 
-// `count` samples of `size` bytes, side by side from index `from` of `dat` on: their low `width` bits go to `img`, one every `step` bits from bit `at` on.
+// `count` samples of `size` bytes, side by side from index `from` of `dat` on: their low `width` bits go to `img`, one
+// every `step` bits from bit `at` on.
 pub fn write_samples(
     dat: &[u8],
     from: usize,
@@ -68,7 +74,8 @@ pub fn write_samples(
     requires { ⌜ (width ≤ 8 * size) × (size ≤ 8) × (from + count * size ≤ length (now dat)) ⌝ }
     requires { ⌜ (width ≡ 8 * size → (at % 8 ≡ 0) × (step % 8 ≡ 0)) ⌝ }
     requires { ⌜ (at + count * step + width < 2 ^ 63) × (at + count * step + width ≤ 8 * length (now img) + step) ⌝ }
-    ensures { λ _. ⌜ now (img .exit) ≡ putSpaced (sideBySide (now (dat .entry)) from size) width at step count (now (img .entry)) ⌝ }
+    ensures { λ _. ⌜ now (img .exit)
+        ≡ samplesWritten (now (dat .entry)) from size width at step count (now (img .entry)) ⌝ }
 {
     if width == 8 * size {
         scatter(dat, from, size, img, at / 8, step / 8, count)

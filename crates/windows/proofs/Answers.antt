@@ -1,30 +1,19 @@
--- What a window answers: a refusal writes nothing, and an accepted read gives its shape and its bytes.
+-- What an accepted window answers: its shape and its bytes.
 -- Assumes nothing.
-use Prim.Native.Nat.{ℕ, _+_}
+use Prim.Native.Nat.{ℕ}
 use mathlib.Core.Path.{_≡_, sym, ap, _∙_}
 use mathlib.Core.List.{List}
 use lib.ListN.{length}
-use Rattle.bits.specs.Over.{over}
+use Rattle.common.specs.Over.{over}
+use Rattle.common.proofs.Questions.{outcome-yes}
+use Rattle.layout.specs.Bands.{bandCount}
 use Rattle.grid.specs.declared.Grid.{Grid}
-use Rattle.grid.specs.Sizes.{sampleBytes}
-use Rattle.grid.specs.Bands.{bandCount, bandAt}
-use Rattle.frame.specs.Reads.{Window, Filled, filled, bytesOf, pictureAt, windowNumber, windowOf, window}
-use Rattle.reading.proofs.BlockReads.{no-answer}
+use Rattle.calls.specs.Orders.{Window, windowNumber}
+use Rattle.calls.specs.Reads.{noShape, filledWith, windowOf, window}
+use Rattle.windows.specs.Internal.Windows.{windowBytes}
 
-pub window-refused : (g : Grid) (image : List ℕ) (w : Window) (out : List ℕ) {k : ℕ} → k ≡ windowNumber g (length image) w (length out) → (k ≡ 0 → ⊥)
-    → _≡_ {A = Filled} (record { shape = record { number = k; bands = 0; rows = 0; columns = 0 }; out = out }) (window g image w out)
+pub window-read : (g : Grid) (image : List ℕ) (w : Window) (out : List ℕ) {zs : List ℕ} → windowNumber g (length image) w (length out) ≡ 0
+    → zs ≡ over out 0 (windowBytes g image w)
+    → filledWith (record { number = 0; bands = bandCount (g .bands) (w .bands); rows = w .rows; columns = w .columns }) zs ≡ window g image w out
 unfolding window windowOf
-window-refused g image w out e ne =
-    no-answer _ (sampleBytes g) (bandCount (g .bands) (w .bands)) (w .rows) (w .columns) _ out ne
-    ∙ ap (λ (n : ℕ). filled n (sampleBytes g) (bandCount (g .bands) (w .bands)) (w .rows) (w .columns)
-    (λ k r c. pictureAt g image (bandAt (w .bands) k) (w .row + r) (w .column + c)) out) e
-
-pub window-read : (g : Grid) (image : List ℕ) (w : Window) (out : List ℕ) {k : ℕ} {zs : List ℕ} → k ≡ windowNumber g (length image) w (length out) → k ≡ 0
-    → zs ≡ over out 0 (bytesOf (sampleBytes g) (bandCount (g .bands) (w .bands)) (w .rows) (w .columns) (λ k r c. pictureAt g image (bandAt (w .bands) k) (w .row + r) (w .column + c)))
-    → _≡_ {A = Filled}
-    (record { shape = record { number = 0; bands = bandCount (g .bands) (w .bands); rows = w .rows; columns = w .columns }; out = zs })
-    (window g image w out)
-unfolding window windowOf filled
-window-read g image w out e z ez =
-    rw (sym e ∙ z)
-    (ap (λ (l : List ℕ). record { shape = record { number = 0; bands = bandCount (g .bands) (w .bands); rows = w .rows; columns = w .columns }; out = l }) ez)
+window-read g image w out e ez = ap (filledWith _) ez ∙ sym (outcome-yes _ (λ n. filledWith (noShape n) out) e)

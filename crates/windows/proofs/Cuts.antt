@@ -5,7 +5,7 @@ use mathlib.Core.Path.{_≡_, sym, ap, _∙_}
 use native.Mathlib.Omega.{arith}
 use native.Mathlib.Nat.{le-div-iff-mul-le, div-lt-iff-lt-mul, lt-div-mul-add, div-mul-le-self, add-mul}
 use lib.Arith.{digits-div}
-use Rattle.windows.specs.Windows.{cutOf}
+use Rattle.windows.specs.Internal.Windows.{cutOf}
 
 -- part i has a place of the window
 pub record Crossed (start length side i : ℕ) : Type 0 where
@@ -24,19 +24,19 @@ side-pos start (suc side) i h = omega arith
 -- ---- one part
 
 -- the numbers that the code computes fit in 64 bits
-pub cut-fits : (start length side i : ℕ) → start + length ≤ 99_999_999 → side ≤ 8_192 → Crossed start length side i
+pub cut-fits : (start length side i : ℕ) → start + length ≤ 99_999_999 → side ≤ 99_999_999 → Crossed start length side i
     → (start + length < 2 ^ 64) × (i * side < start + length) × (start < (i + 1) * side) × ((i + 1) * side < 2 ^ 64)
 cut-fits start length side i h k c = (omega arith, c .starts, c .ends, omega (arith, add-mul i 1 side))
 
 -- the cut is inside the part and inside the window, and both name the same place
-pub record Cuts (start length side i : ℕ) : Type 0 where
+pub record CutIn (start length side i : ℕ) : Type 0 where
   pub same : i * side + cutOf start length side i .from ≡ start + cutOf start length side i .to
   pub some : 0 < cutOf start length side i .count
   pub in-part : cutOf start length side i .from + cutOf start length side i .count ≤ side
   pub in-window : cutOf start length side i .to + cutOf start length side i .count ≤ length
   pub part-is : (start + cutOf start length side i .to) / side ≡ i
 
-pub cuts : (start length side i : ℕ) → 0 < length → Crossed start length side i → Cuts start length side i
+pub cuts : (start length side i : ℕ) → 0 < length → Crossed start length side i → CutIn start length side i
 unfolding cutOf
 cuts start length side i h c =
     let e : i * side + (max start (i * side) - i * side) ≡ start + (max start (i * side) - start) = omega arith in

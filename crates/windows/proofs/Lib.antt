@@ -1,5 +1,5 @@
 -- The laws of `windows`.
 pub mod Cuts
-pub mod Asked
+pub mod WindowQuestions
 pub mod Rectangles
 pub mod Answers

@@ -1,2 +1,2 @@
 -- A window and the blocks that it crosses.
-pub mod Windows
+pub mod Internal

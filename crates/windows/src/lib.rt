@@ -1,13 +1,15 @@
 // Reading a window: any rectangle of the picture, across blocks.
 ghost use mathlib.Core.Path.{_≡_};
-ghost use Rattle.grid.specs.Bands.{bandsOf};
-ghost use Rattle.frame.specs.Reads.{windowNumber, window, Filled};
-ghost use Rattle.windows.specs.Windows.{rectangle, inside};
-use frame::Shape;
+ghost use Rattle.layout.specs.Bands.{bandsOf};
+ghost use Rattle.calls.specs.Orders.{windowNumber, rectangle};
+ghost use Rattle.calls.specs.Reads.{filledWith, window};
+ghost use Rattle.windows.specs.Internal.Windows.{inside};
+use calls::Shape;
+use calls::refused;
+use common::product_fits;
 use grid::Grid;
-use grid::bands::band_count;
-use grid::bands::bands_below;
-use reading::refused;
+use layout::bands::band_count;
+use layout::bands::bands_below;
 
 mod across;
 mod cut;
@@ -40,7 +42,8 @@ fn window_number(
     bands: &[u32],
     room: usize,
 ) -> u32
-    ensures { λ r. ⌜ r ≡ windowNumber grid image (rectangle row column rows columns (bandsOf all (now (bands .entry)))) room ⌝ }
+    ensures { λ r. ⌜ r ≡ windowNumber grid image
+        (rectangle row column rows columns (bandsOf all (now (bands .entry)))) room ⌝ }
 {
     let number = grid.check();
     if number != 0 {
@@ -61,7 +64,7 @@ fn window_number(
         return 8;
     }
     let plane = rows as usize * columns as usize * grid.sample_bytes();
-    if room / plane < band_count(grid.bands, all, bands) {
+    if !product_fits(band_count(grid.bands, all, bands), plane, room) {
         return 9;
     }
     0
@@ -79,7 +82,9 @@ pub fn read_window(
     bands: &[u32],
     out: &mut [u8],
 ) -> Shape
-    ensures { λ r. ⌜ _≡_ {A = Filled} (record { shape = r; out = now (out .exit) }) (window grid (now (image .entry)) (rectangle row column rows columns (bandsOf all (now (bands .entry)))) (now (out .entry))) ⌝ }
+    ensures { λ r. ⌜ filledWith r (now (out .exit))
+        ≡ window grid (now (image .entry)) (rectangle row column rows columns (bandsOf all (now (bands .entry))))
+        (now (out .entry)) ⌝ }
 {
     let number = window_number(
         image.len(),

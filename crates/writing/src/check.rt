@@ -1,6 +1,6 @@
 // The questions of the calls that write.
 ghost use mathlib.Core.Path.{_≡_};
-ghost use Rattle.frame.specs.Writes.{startNumber, skipNumber, progressNumber, writeNumber};
+ghost use Rattle.calls.specs.Orders.{startNumber, skipNumber, progressNumber, writeNumber};
 use grid::Grid;
 
 // Questions 1 to 4 and 12, for so many mark words.
@@ -11,7 +11,7 @@ pub fn marks_number(grid: Grid, words: usize) -> u32
     if number != 0 {
         return number;
     }
-    if words < marks::mark_words(grid.blocks()) {
+    if !marks::has_words(words, grid.blocks()) {
         return 12;
     }
     0
@@ -25,10 +25,10 @@ pub fn buffers_number(grid: Grid, image: usize, words: usize) -> u32
     if number != 0 {
         return number;
     }
-    if image < grid.image_bytes() {
+    if !grid.fits_in(image) {
         return 11;
     }
-    if words < marks::mark_words(grid.blocks()) {
+    if !marks::has_words(words, grid.blocks()) {
         return 12;
     }
     0
@@ -42,10 +42,7 @@ pub fn block_number(grid: Grid, image: usize, words: usize, block_row: u32, bloc
     if number != 0 {
         return number;
     }
-    if block_row >= grid.nbpc {
-        return 6;
-    }
-    if block_col >= grid.nbpr {
+    if !grid.has_block(block_row, block_col) {
         return 6;
     }
     0

@@ -1,22 +1,20 @@
 // Writing a frame into a lent image, with a mark for each block that was written or skipped.
 ghost use mathlib.Core.Path.{_≡_};
-ghost use Rattle.frame.specs.Writes.{left, number as plainAnswer, start as startOf, write, skip, progress as progressOf, finish};
-use frame::Answer;
+ghost use Rattle.calls.specs.Writes.{frameOut, number as plainAnswer, start as startOf};
+ghost use Rattle.calls.specs.Writes.{write, skip, progress as progressOf, finish};
+use calls::Answer;
 use grid::Grid;
 use marks::FirstUnmarked;
 
 mod check;
-mod clear;
-mod even;
-mod store;
 
 use crate::check::block_number;
 use crate::check::buffers_number;
 use crate::check::marks_number;
 use crate::check::write_number;
-use crate::clear::clear_bytes;
-use crate::clear::clear_words;
-use crate::store::store_block;
+use common::clear::clear_bytes;
+use common::clear::clear_words;
+use moves::store::store_block;
 
 // An answer that is only a number.
 fn answer(number: u32) -> Answer
@@ -31,7 +29,8 @@ fn answer(number: u32) -> Answer
 
 // Starts a frame: clears the image and the words that hold the grid's marks. The surplus of longer buffers is kept.
 pub fn start(image: &mut [u8], marks: &mut [u64], grid: Grid) -> Answer
-    ensures { λ r. ⌜ left r (now (image .exit)) (now (marks .exit)) ≡ startOf grid (now (image .entry)) (now (marks .entry)) ⌝ }
+    ensures { λ r. ⌜ frameOut r (now (image .exit)) (now (marks .exit))
+        ≡ startOf grid (now (image .entry)) (now (marks .entry)) ⌝ }
 {
     let number = buffers_number(grid, image.len(), marks.len());
     if number != 0 {
@@ -42,7 +41,8 @@ pub fn start(image: &mut [u8], marks: &mut [u64], grid: Grid) -> Answer
     answer(0)
 }
 
-// Stores the samples of a block, which stand in `data` band by band, row by row, and marks it. A block may be written again.
+// Stores the samples of a block, which stand in `data` band by band, row by row, and marks it. A block may be written
+// again.
 pub fn encode_block(
     image: &mut [u8],
     marks: &mut [u64],
@@ -54,7 +54,8 @@ pub fn encode_block(
     columns: usize,
     data: &[u8],
 ) -> Answer
-    ensures { λ r. ⌜ left r (now (image .exit)) (now (marks .exit)) ≡ write grid (now (image .entry)) (now (marks .entry)) «block_row» «block_col» bands rows columns (now («data» .entry)) ⌝ }
+    ensures { λ r. ⌜ frameOut r (now (image .exit)) (now (marks .exit)) ≡ write grid (now (image .entry))
+        (now (marks .entry)) «block_row» «block_col» bands rows columns (now («data» .entry)) ⌝ }
 {
     let number = write_number(
         grid,
@@ -72,7 +73,7 @@ pub fn encode_block(
     }
     let row = block_row as usize;
     let column = block_col as usize;
-    store_block(image, grid, row, column, data);
+    store_block(image, grid.block_layout(row, column), data);
     marks::set_mark(marks, grid.block_index(row, column));
     answer(0)
 }
@@ -85,7 +86,8 @@ pub fn skip_block(
     block_row: u32,
     block_col: u32,
 ) -> Answer
-    ensures { λ r. ⌜ left r (now (image .entry)) (now (marks .exit)) ≡ skip grid (now (image .entry)) (now (marks .entry)) «block_row» «block_col» ⌝ }
+    ensures { λ r. ⌜ frameOut r (now (image .entry)) (now (marks .exit))
+        ≡ skip grid (now (image .entry)) (now (marks .entry)) «block_row» «block_col» ⌝ }
 {
     let number = block_number(grid, image.len(), marks.len(), block_row, block_col);
     if number != 0 {

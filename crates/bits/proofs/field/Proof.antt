@@ -1,14 +1,13 @@
-use mathlib.Core.Path.{_≡_, ap, _∙_}
-use Prim.Native.Nat.{ℕ, _*_, _/_, _%_, _-_, _^_, _<_, _≤_}
+-- `bits::field` meets its contract.
+-- Assumes nothing.
+use Prim.Native.Nat.{_/_, _-_, _^_}
 use native.Mathlib.Omega.{arith}
-use lib.Bits.{bitAnd, and-mask}
+use lib.Bits.{and-mask}
 use lib.Pow.{pow-pos}
 use borrow.Author.Needs.{needs}
 use Rattle.bits.proofs.Shift.{one-shl}
 use Rattle.bits.proofs.field.Statement.{statement}
 use Rattle.bits.proofs.field.Tie as tie
-use Rattle.bits.proofs.field.Reads as reads
-use Rattle.bits.proofs.field.Lts as lts
 
 shr-result : tie.Need-shr-result
 shr-result c = search needs

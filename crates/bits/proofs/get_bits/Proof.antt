@@ -1,22 +1,19 @@
-use mathlib.Core.Path.{_≡_, ap, ap₂, sym, _∙_, refl}
+-- `bits::get_bits` meets its contract.
+-- Assumes nothing.
+use mathlib.Core.Path.{_≡_, ap, ap₂, sym, _∙_}
 use Prim.Native.Nat.{ℕ, _+_, _*_, _/_, _%_, _-_, _^_, _<_, _≤_, min}
 use native.Mathlib.Omega.{arith}
-use borrow.Author.Needs.{needs}
 use native.Mathlib.Nat.{mod-lt}
 use lib.Bits.{bitOr}
 use lib.Pow.{pow-pos}
 use mathlib.Core.List.{List}
-use lib.ListN.{length, getD, set, length-set}
+use lib.ListN.{getD}
 use denote.Ref.{now}
-use Rattle.bits.specs.Bits.{bitsAt, putBits, withField}
-use Rattle.bits.proofs.Bits.{bitsAt-lt, bitsAt-turn, putBits-turn, length-putBits}
-use Rattle.bits.proofs.Shift.{one-shl, shl-or}
+use Rattle.bits.specs.Bits.{bitsAt}
+use Rattle.bits.proofs.Bits.{bitsAt-lt, bitsAt-turn}
+use Rattle.bits.proofs.Shift.{shl-or}
 use Rattle.bits.proofs.get_bits.Statement.{statement}
 use Rattle.bits.proofs.get_bits.Tie as tie
-use Rattle.bits.proofs.get_bits.Reads as reads
-use Rattle.bits.proofs.get_bits.Lts as lts
-use Rattle.bits.proofs.field.Reads as field-reads
-use Rattle.bits.proofs.least.Reads as least-reads
 
 abbrev Inv-loop : tie.InvT-loop
 Inv-loop buf at width acc₀ done₀ acc done = (done ≤ width) × (acc ≡ bitsAt buf at done)
@@ -43,11 +40,11 @@ add-p c = omega arith
 sub-room : tie.Need-sub-room Inv-loop μ-loop
 sub-room c = omega arith
 
-sub-least : tie.Need-sub-least Inv-loop μ-loop
-sub-least c = omega arith
+sub-min : tie.Need-sub-min Inv-loop μ-loop
+sub-min c = omega arith
 
-least-requires : tie.Need-least-requires Inv-loop μ-loop
-least-requires c κs = omega arith
+min-requires : tie.Need-min-requires Inv-loop μ-loop
+min-requires c κs = omega arith
 
 shared-slice-read-field : tie.Need-shared-slice-read-field Inv-loop μ-loop
 shared-slice-read-field c = omega arith
@@ -75,8 +72,8 @@ loop-again c =
     let head = c .before .before .before .before in
     let start = head .before .before in (
       omega arith,
-      turn (now (start .args .buf)) (start .args .at) (start .args .width) (head .loop .acc) (head .loop .done) (c .before .before .least .result) (c .field .result)
-          (head .loop .inv .1) (omega arith) (omega arith) (c .before .before .least .ensures) (c .field .ensures),
+      turn (now (start .args .buf)) (start .args .at) (start .args .width) (head .loop .acc) (head .loop .done) (c .before .before .min .result) (c .field .result)
+          (head .loop .inv .1) (omega arith) (omega arith) (c .before .before .min .ensures) (c .field .ensures),
     )
 
 returns : tie.Need-returns Inv-loop μ-loop
@@ -94,8 +91,8 @@ get-bits-spec =
     loop-holds
     add-p
     sub-room
-    sub-least
-    least-requires
+    sub-min
+    min-requires
     shared-slice-read-field
     cast-field
     sub-field

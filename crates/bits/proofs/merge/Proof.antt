@@ -1,18 +1,18 @@
-use mathlib.Core.Path.{_≡_, ap, ap₂, sym, _∙_}
+-- `bits::merge` meets its contract.
+-- Assumes nothing.
+use mathlib.Core.Path.{_≡_, ap, ap₂, _∙_}
 use Prim.Native.Nat.{ℕ, _+_, _*_, _/_, _%_, _-_, _^_, _<_, _≤_}
-use native.Mathlib.Nat.{mod-lt, lt-of-le-of-lt, lt-of-lt-of-le}
+use native.Mathlib.Nat.{mod-lt, lt-of-le-of-lt}
 use native.Mathlib.Omega.{arith}
 use lib.Bits.{bitAnd, bitOr, and-mask}
 use lib.Arith.{digits-lt}
-use lib.Pow.{pow-pos, pow-mono, pow-add, shr-le}
+use lib.Pow.{pow-pos, pow-add, shr-le}
 use borrow.Author.Needs.{needs}
 use Rattle.bits.specs.Bits.{withField}
 use Rattle.bits.proofs.Bits.{withField-lt}
 use Rattle.bits.proofs.Shift.{one-shl, shl-or}
 use Rattle.bits.proofs.merge.Statement.{statement}
 use Rattle.bits.proofs.merge.Tie as tie
-use Rattle.bits.proofs.merge.Reads as reads
-use Rattle.bits.proofs.merge.Lts as lts
 
 -- what the code computes
 abbrev computed : ℕ → ℕ → ℕ → ℕ → ℕ

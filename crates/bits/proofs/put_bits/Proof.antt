@@ -1,22 +1,17 @@
-use mathlib.Core.Path.{_≡_, ap, ap₂, sym, _∙_, refl}
+-- `bits::put_bits` meets its contract.
+-- Assumes nothing.
+use mathlib.Core.Path.{_≡_, _∙_, refl}
 use Prim.Native.Nat.{ℕ, _+_, _*_, _/_, _%_, _-_, _^_, _<_, _≤_, min}
 use native.Mathlib.Omega.{arith}
-use borrow.Author.Needs.{needs}
 use native.Mathlib.Nat.{mod-lt, div-one}
 use lib.Pow.{pow-pos}
 use mathlib.Core.List.{List}
 use lib.ListN.{length, getD, set, length-set}
 use denote.Ref.{now}
-use Rattle.bits.specs.Bits.{bitsAt, putBits, withField}
-use Rattle.bits.proofs.Bits.{bitsAt-lt, bitsAt-turn, putBits-turn, length-putBits}
-use Rattle.bits.proofs.Shift.{one-shl, shl-or}
+use Rattle.bits.specs.Bits.{putBits, withField}
+use Rattle.bits.proofs.Bits.{putBits-turn}
 use Rattle.bits.proofs.put_bits.Statement.{statement}
 use Rattle.bits.proofs.put_bits.Tie as tie
-use Rattle.bits.proofs.put_bits.Reads as reads
-use Rattle.bits.proofs.put_bits.Lts as lts
-use Rattle.bits.proofs.field.Reads as field-reads
-use Rattle.bits.proofs.least.Reads as least-reads
-use Rattle.bits.proofs.merge.Reads as merge-reads
 
 abbrev Inv-loop : tie.InvT-loop
 Inv-loop buf₀ at width value done₀ buf done = (done ≤ width) × (buf ≡ putBits buf₀ at done (value / 2 ^ (width - done))) × (length buf ≡ length buf₀)
@@ -41,11 +36,11 @@ add-p c = omega arith
 sub-room : tie.Need-sub-room Inv-loop μ-loop
 sub-room c = omega arith
 
-sub-least : tie.Need-sub-least Inv-loop μ-loop
-sub-least c = omega arith
+sub-min : tie.Need-sub-min Inv-loop μ-loop
+sub-min c = omega arith
 
-least-requires : tie.Need-least-requires Inv-loop μ-loop
-least-requires c κs = omega arith
+min-requires : tie.Need-min-requires Inv-loop μ-loop
+min-requires c κs = omega arith
 
 sub-field : tie.Need-sub-field Inv-loop μ-loop
 sub-field c = omega arith
@@ -66,7 +61,7 @@ merge-requires : tie.Need-merge-requires Inv-loop μ-loop
 merge-requires c κs =
     let head = c .before .before .before .before in
     let start = head .before .before in
-    let n : ℕ = c .before .before .least .result in
+    let n : ℕ = c .before .before .min .result in
     (omega arith, rw (c .before .field .ensures) (mod-lt (start .args .value / 2 ^ (start .args .width - head .loop .done - n)) (pow-pos n)))
 
 slice-write-buf : tie.Need-slice-write-buf Inv-loop μ-loop
@@ -83,9 +78,9 @@ loop-again c =
     let head = c .before .before .before .before .before in
     let start = head .before .before in (
       omega arith,
-      turn (now (start .args .buf)) (head .loop .buf) (start .args .at) (start .args .width) (start .args .value) (head .loop .done) (c .before .before .before .least .result)
+      turn (now (start .args .buf)) (head .loop .buf) (start .args .at) (start .args .width) (start .args .value) (head .loop .done) (c .before .before .before .min .result)
           (c .before .before .field .result) (c .merge .result) (head .loop .inv .1) (omega arith) (omega arith)
-          (c .before .before .before .least .ensures) (c .before .before .field .ensures) (c .merge .ensures),
+          (c .before .before .before .min .ensures) (c .before .before .field .ensures) (c .merge .ensures),
       rw length-set (head .loop .inv .2),
     )
 
@@ -108,8 +103,8 @@ put-bits-spec =
     loop-holds
     add-p
     sub-room
-    sub-least
-    least-requires
+    sub-min
+    min-requires
     sub-field
     sub-field-2
     field-requires

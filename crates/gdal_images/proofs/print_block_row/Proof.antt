@@ -1,4 +1,4 @@
--- `print_block_row` ends.
+-- `gdal_images::print_block_row` ends.
 -- Assumes nothing.
 use Prim.Native.Nat.{_-_, _≤_}
 use native.Mathlib.Omega.{arith}

@@ -1,4 +1,4 @@
--- `print_blocks` ends.
+-- `gdal_images::print_blocks` ends.
 -- Assumes nothing.
 use Prim.Native.Nat.{_-_, _≤_}
 use native.Mathlib.Omega.{arith}

@@ -1,4 +1,4 @@
--- `print_rows` ends.
+-- `gdal_images::print_rows` ends.
 -- Assumes nothing.
 use Prim.Native.Nat.{_-_, _≤_}
 use native.Mathlib.Omega.{arith}

@@ -1,19 +1,17 @@
--- `from_band_sequential` meets its contract.
+-- `interleave::from_band_sequential` meets its contract.
 -- Assumes nothing.
 use borrow.Author.Needs.{needs}
-use mathlib.Core.Path.{refl, sym, ap, _∙_}
-use mathlib.Core.Logic.{⊎-elim}
-use native.Mathlib.Omega.{arith}
-use denote.Ref.{now}
-use lib.ListN.{length}
-use Rattle.grid.specs.Questions.{pick}
-use Rattle.grid.specs.Bands.{bandCount}
-use Rattle.grid.specs.declared.InterleaveMode.the-variants.{S}
-use Rattle.interleave.specs.Interleave.{everyBand}
-use Rattle.interleave.proofs.Accepted.{Accepted, accepted}
-use Rattle.interleave.proofs.Answers.{reorder-refused, reorder-accepted, copied, same-from}
 use Rattle.interleave.proofs.from_band_sequential.Statement.{statement}
 use Rattle.interleave.proofs.from_band_sequential.Tie as tie
+use mathlib.Core.Path.{refl, sym, _∙_}
+use denote.Ref.{now}
+use lib.ListN.{length}
+use Rattle.common.specs.Tests.{pick}
+use Rattle.layout.specs.Bands.{bandCount}
+use Rattle.layout.specs.declared.InterleaveMode.the-variants.{S}
+use Rattle.interleave.specs.Interleave.{everyBand}
+use Rattle.interleave.proofs.Accepted.{Accepted, accepted}
+use Rattle.interleave.proofs.Answers.{reorder-refused, reorder-accepted}
 
 -- the questions were answered yes
 asked : (c : tie.Else1)
@@ -37,33 +35,20 @@ returns c =
     reorder-refused S (a .to-mode) everyBand (a .nrows) (a .ncols) (a .nbands) (a .bytes-per-pixel) (now (a .«data»)) (now (a .out))
     (n .reorder-number .result) (c .refused .ensures) (n .reorder-number .ensures) (c .before .if1 .taken)
 
-is-by-band-requires : tie.Need-is-by-band-requires
-is-by-band-requires c κs = search needs
-
-copy-requires : tie.Need-copy-requires
-unfolding bandCount pick
-copy-requires c κs = let h = asked (c .before .before .before) in (omega arith, omega (arith, h))
-
-scatter-planes-requires : tie.Need-scatter-planes-requires
-scatter-planes-requires c κs = search needs
+from-planes-requires : tie.Need-from-planes-requires
+from-planes-requires c κs = search needs
 
 same-length : tie.Need-same-length
-same-length c = ⊎-elim (λ w. omega (arith, ap length (w .5), w .2 .kept)) (λ w. omega (arith, ap length (w .5), w .2 .kept)) (c .if2 .came)
+same-length c = search needs
 
 returns-2 : tie.Need-returns-2
 unfolding bandCount pick
 returns-2 c =
-    let e = c .before .before in
+    let e = c .before .before .before .before in
     let n = e .before in
     let a = n .before .before .before .before .args in
     reorder-accepted S (a .to-mode) everyBand (a .nrows) (a .ncols) (a .nbands) (a .bytes-per-pixel) (now (a .«data»)) (now (a .out)) (n .reorder-number .result) _ _
-    (n .reorder-number .ensures) (e .if1 .left) refl (asked e .full)
-    (⊎-elim
-    (λ w. copied S (a .to-mode) (a .nbands) (a .nrows) (a .ncols) (a .bytes-per-pixel) (now (a .«data»)) (now (a .out))
-    (λ k h. same-from (a .to-mode) (a .nbands) (a .nrows) (a .ncols) k (sym (c .before .is-by-band .ensures) ∙ w .0 .taken) h)
-    (λ i. n .before .before .before .shared-slice-known .given i .fits) (asked e .full) (w .5 ∙ w .2 .ensures))
-    (λ w. w .5 ∙ w .2 .ensures)
-    (c .if2 .came))
+    (n .reorder-number .ensures) (e .if1 .left) refl (asked e .full) (c .before .before .from-planes .ensures)
 
 pub from-band-sequential-spec : {M : Type 1} → statement M
 from-band-sequential-spec =
@@ -73,8 +58,6 @@ from-band-sequential-spec =
     reorder-number-requires
     refused-requires
     returns
-    is-by-band-requires
-    copy-requires
-    scatter-planes-requires
+    from-planes-requires
     same-length
     returns-2)

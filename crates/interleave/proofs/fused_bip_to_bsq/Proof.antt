@@ -1,4 +1,4 @@
--- `fused_bip_to_bsq` meets its contract.
+-- `interleave::fused_bip_to_bsq` meets its contract.
 -- Assumes nothing.
 use borrow.Author.Needs.{needs}
 use Prim.Native.Nat.{ℕ, _*_}
@@ -6,8 +6,8 @@ use mathlib.Core.Path.{sym, ap, _∙_}
 use native.Mathlib.Omega.{arith}
 use denote.Ref.{now}
 use lib.ListN.{length}
-use Rattle.grid.specs.Bands.{bandsOf}
-use Rattle.grid.specs.declared.InterleaveMode.the-variants.{P, S}
+use Rattle.layout.specs.Bands.{bandsOf}
+use Rattle.layout.specs.declared.InterleaveMode.the-variants.{P, S}
 use Rattle.interleave.proofs.Accepted.{Accepted, accepted}
 use Rattle.interleave.proofs.Answers.{reorder-refused, reorder-accepted}
 use Rattle.interleave.proofs.fused_bip_to_bsq.Statement.{statement}
@@ -32,8 +32,8 @@ returns c =
     reorder-refused P S (bandsOf (a .all) (now (a .bands))) (a .nrows) (a .ncols) (a .nbands) (a .bytes-per-pixel) (now (a .«data»)) (now (a .out))
     (n .reorder-number .result) (c .refused .ensures) (n .reorder-number .ensures) (c .before .if1 .taken)
 
-gather-planes-requires : tie.Need-gather-planes-requires
-gather-planes-requires c κs = search needs
+to-planes-requires : tie.Need-to-planes-requires
+to-planes-requires c κs = search needs
 
 band-count-requires : tie.Need-band-count-requires
 band-count-requires c κs = search needs
@@ -56,7 +56,7 @@ returns-2 c =
     reorder-accepted P S (bandsOf (a .all) (now (a .bands))) (a .nrows) (a .ncols) (a .nbands) (a .bytes-per-pixel) (now (a .«data»)) (now (a .out)) (n .reorder-number .result) _ _
     (n .reorder-number .ensures) (e .if1 .left) (b .band-count .ensures)
     (c .output-bytes .ensures ∙ ap (λ (k : ℕ). k * a .nrows * a .ncols * a .bytes-per-pixel) (b .band-count .ensures))
-    (g .gather-planes .ensures)
+    (g .to-planes .ensures)
 
 pub fused-bip-to-bsq-spec : {M : Type 1} → statement M
 fused-bip-to-bsq-spec =
@@ -65,7 +65,7 @@ fused-bip-to-bsq-spec =
     reorder-number-requires
     refused-requires
     returns
-    gather-planes-requires
+    to-planes-requires
     band-count-requires
     output-bytes-requires
     same-length

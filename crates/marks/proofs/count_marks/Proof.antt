@@ -1,4 +1,4 @@
--- `count_marks` meets its contract. The loop's invariant: the sum counts the marks of the k words passed.
+-- `marks::count_marks` meets its contract. The loop's invariant: the sum counts the marks of the k words passed.
 -- Assumes nothing.
 use mathlib.Core.Path.{_≡_, refl, ap, _∙_}
 use Prim.Native.Nat.{ℕ, _+_, _-_, _*_, _/_, _%_, _≤_}

@@ -1,4 +1,4 @@
--- `first_unmarked` meets its contract. The loops' invariants: the search has come to the block at hand, and all before are marked.
+-- `marks::first_unmarked` meets its contract. The loops' invariants: the search has come to the block at hand, and all before are marked.
 -- Assumes nothing.
 use mathlib.Core.Path.{_≡_, sym, _∙_}
 use Prim.Native.Nat.{_+_, _-_, _*_, _≤_, _<_}
@@ -31,18 +31,21 @@ Inv-first marks across down start = Unit {0}
 abbrev μ-first : tie.MeasureT-first
 μ-first marks across down start = 0
 
+-- the turn of the loop over rows that a turn is in, and the function's start
+abbrev outer : tie.In-loop2 Inv-loop2 μ-loop2 Inv-loop μ-loop Inv-first μ-first → tie.In-loop Inv-loop2 μ-loop2 Inv-loop μ-loop Inv-first μ-first
+outer c = c .before .before
+
+abbrev start : tie.In-loop Inv-loop2 μ-loop2 Inv-loop μ-loop Inv-first μ-first → tie.Start Inv-loop2 μ-loop2 Inv-loop μ-loop Inv-first μ-first
+start c = c .before .before .before .before .before
+
 -- the block at hand is one of the grid's
-inside :
-    (c : tie.In-loop2 Inv-loop2 μ-loop2 Inv-loop μ-loop Inv-first μ-first) →
-    c .before .before .before .loop .row * c .before .before .before .before .before .before .before .args .across + c .before .loop2 .column
-    < c .before .before .before .before .before .before .before .args .down * c .before .before .before .before .before .before .before .args .across
-inside c = digits-lt (c .before .before .loop-test .taken) (c .loop2-test .taken)
+inside : (c : tie.In-loop2 Inv-loop2 μ-loop2 Inv-loop μ-loop Inv-first μ-first)
+    → let a = start (outer c) .args in outer c .before .loop .row * a .across + c .before .loop2 .column < a .down * a .across
+inside c = digits-lt (outer c .loop-test .taken) (c .loop2-test .taken)
 
 -- and there are few of them
-small :
-    (c : tie.In-loop2 Inv-loop2 μ-loop2 Inv-loop μ-loop Inv-first μ-first) →
-    c .before .before .before .before .before .before .before .args .down * c .before .before .before .before .before .before .before .args .across ≤ 9999 * 9999
-small c = mul-le-mul (c .before .before .before .before .before .before .before .pre .2) (c .before .before .before .before .before .before .before .pre .1)
+small : (c : tie.In-loop2 Inv-loop2 μ-loop2 Inv-loop μ-loop Inv-first μ-first) → let a = start (outer c) .args in a .down * a .across ≤ 9999 * 9999
+small c = let h = start (outer c) .pre in mul-le-mul (h .2) (h .1)
 
 row-to-start-requires : tie.Need-row-to-start-requires Inv-loop2 μ-loop2 Inv-loop μ-loop Inv-first μ-first
 row-to-start-requires c κs = search needs
@@ -90,7 +93,7 @@ loop-less c = omega arith
 loop-again : tie.Need-loop-again Inv-loop2 μ-loop2 Inv-loop μ-loop Inv-first μ-first
 loop-again c = (
   omega arith,
-  let e : c .before .loop2 .column ≡ c .before .before .before .before .before .before .before .args .across = omega arith in
+  let e : c .before .loop2 .column ≡ start (c .before .before) .args .across = omega arith in
       rw (add-one, suc-mul) (rw e at (c .before .loop2 .inv .1)),
 )
 

@@ -1,9 +1,8 @@
--- `full_words` meets its contract: as many marks are counted as there are.
+-- `marks::full_words` meets its contract: as many marks are counted as there are.
 -- Assumes nothing.
 use Prim.Native.Nat.{_-_, _*_, _≤_}
 use mathlib.Core.Path.{_≡_, refl}
 use native.Mathlib.Omega.{arith}
-use borrow.Author.Needs.{needs}
 use Rattle.marks.specs.Marks.{marked, count}
 use Rattle.marks.proofs.Marks.{count-all}
 use Rattle.marks.proofs.Words.{full-word}

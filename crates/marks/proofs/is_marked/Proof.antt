@@ -1,4 +1,4 @@
--- `is_marked` meets its contract.
+-- `marks::is_marked` meets its contract.
 -- Assumes nothing.
 use mathlib.Core.Path.{refl}
 use borrow.Author.Needs.{needs}

@@ -1,4 +1,4 @@
--- `row_to_start` meets its contract.
+-- `marks::row_to_start` meets its contract.
 -- Assumes nothing.
 use native.Mathlib.Nat.{mul-le-mul}
 use native.Mathlib.Omega.{arith}

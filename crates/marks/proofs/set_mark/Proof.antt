@@ -1,4 +1,4 @@
--- `set_mark` meets its contract: `|` with a power of two sets that bit.
+-- `marks::set_mark` meets its contract: `|` with a power of two sets that bit.
 -- Assumes nothing.
 use borrow.Author.Needs.{needs}
 use Rattle.marks.proofs.Words.{set-word}

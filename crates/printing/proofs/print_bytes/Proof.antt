@@ -1,4 +1,4 @@
--- `print_bytes` reads inside its slice and ends.
+-- `printing::print_bytes` reads inside its slice and ends.
 -- Assumes nothing.
 use Prim.Native.Nat.{_-_, _≤_}
 use native.Mathlib.Omega.{arith}

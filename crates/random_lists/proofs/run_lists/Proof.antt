@@ -1,4 +1,4 @@
--- `run_lists` ends.
+-- `random_lists::run_lists` ends.
 -- Assumes nothing.
 use Prim.Native.Nat.{_-_, _≤_}
 use native.Mathlib.Omega.{arith}

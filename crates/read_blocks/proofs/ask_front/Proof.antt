@@ -1,4 +1,4 @@
--- `ask_front` hands over the front of the image, inside it.
+-- `read_blocks::ask_front` hands over the front of the image, inside it.
 -- Assumes nothing.
 use mathlib.Core.Path.{sym}
 use native.Mathlib.Omega.{arith}

@@ -1,6 +1,6 @@
--- `every_width` ends.
+-- `read_blocks::every_width` ends.
 -- Assumes nothing.
-use Prim.Native.Nat.{_+_, _-_, _≤_}
+use Prim.Native.Nat.{_-_, _≤_}
 use native.Mathlib.Omega.{arith}
 use borrow.Author.Needs.{needs}
 use Rattle.read_blocks.proofs.every_width.Statement.{statement}

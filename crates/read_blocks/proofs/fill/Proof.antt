@@ -1,6 +1,6 @@
--- `fill` writes inside its slice and ends.
+-- `read_blocks::fill` writes inside its slice and ends.
 -- Assumes nothing.
-use Prim.Native.Nat.{_+_, _-_, _≤_}
+use Prim.Native.Nat.{_-_, _≤_}
 use native.Mathlib.Omega.{arith}
 use borrow.Author.Needs.{needs}
 use mathlib.Core.Path.{_≡_}

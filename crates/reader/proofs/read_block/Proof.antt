@@ -1,4 +1,4 @@
--- `read_block` meets its contract: a walk of its MIR, by hand. The reader that `Reader::new` returns is held in a local and passed to `Reader::decode_block`.
+-- `reader::read_block` meets its contract: a walk of its MIR, by hand. The reader that `Reader::new` returns is held in a local and passed to `Reader::decode_block`.
 -- In a local the lifetime of the reader's type is erased. `out` is passed on at its own lifetime, share and ghost name.
 -- Assumes nothing.
 use mathlib.Core.Path.{_≡_, refl, sym, subst}
@@ -31,9 +31,9 @@ use denote.Triple.Entry.{Args, Vals, onEntry}
 use denote.Triple.Spec.{Back}
 use Rattle.grid.proofs.Grid as G
 use Rattle.grid.proofs.Grid.Laws as G′
-use Rattle.frame.specs.declared.Shape.{Shape}
-use Rattle.frame.proofs.Shape as Sh
-use Rattle.frame.proofs.Shape.Laws as Sh′
+use Rattle.calls.specs.declared.Shape.{Shape}
+use Rattle.calls.proofs.Shape as Sh
+use Rattle.calls.proofs.Shape.Laws as Sh′
 use Rattle.reader.specs.declared.Reader.{Reader}
 use Rattle.reader.proofs.Reader as T
 use Rattle.reader.proofs.Reader.Laws as T′

@@ -1,112 +1,150 @@
 -- `reading::block_number` meets its contract: each "no" gives its number.
 -- Assumes nothing.
 use borrow.Author.Needs.{needs}
-use mathlib.Core.Path.{_≡_, sym, _∙_}
+use mathlib.Core.Path.{_≡_, refl, sym, ap, _∙_}
+use mathlib.Core.Bool.{Bool, true, false}
 use denote.Ref.{now}
-use Prim.Native.Nat.{_*_}
-use Rattle.grid.specs.Bands.{bandsOf}
-use Rattle.grid.specs.Check.{Accepted}
-use Rattle.grid.proofs.Questions.{no, yes}
-use Rattle.reading.proofs.BlockNumbers.{planeBytes, Plane, plane, InGrid, InImage, read-grid, read-5, read-row, read-column, read-7, read-8, read-9, read-0}
+use borrow.Author.Tests.{eq-eqb, ne-eqb, le-leb, lt-leb, not-true, not-false}
+use Rattle.common.specs.Questions.{ask}
+use Rattle.common.proofs.Flags.{no, yes}
+use Rattle.layout.specs.Bands.{bandsOf}
+use Rattle.layout.proofs.Listed.{room-is}
+use Rattle.grid.specs.Check.{Accepted, q6}
+use Rattle.grid.proofs.Accepted.{grid-no, grid-yes, block-in}
+use Rattle.calls.specs.Orders.{q5, q7, blockQuestions, blockNumber}
+use Rattle.reading.proofs.BlockNumbers.{Plane, plane, roomFor}
 use Rattle.reading.proofs.block_number.Statement.{statement}
 use Rattle.reading.proofs.block_number.Tie as tie
 
+-- earlier places of the code
+abbrev past-6 : tie.Else4 → tie.Else3
+past-6 c = c .before .before
+
+abbrev past-5 : tie.Else3 → tie.Else2
+past-5 c = c .before .before
+
+abbrev past-8 : tie.After-product-fits → tie.Else5
+past-8 c = c .before .before .before .before .before
+
+-- what is known past each question
 accepted : (c : tie.Else1) → Accepted (c .before .before .before .args .grid)
 accepted c = sym (c .before .check .ensures) ∙ c .if1 .left
 
-in-grid : (c : tie.Else4) → let a = c .before .before .before .before .before .before .before .before .args in InGrid (a .grid) (a .block-row) (a .block-col) (a .resolution-level)
-in-grid c =
-    record {
-      accepted = accepted (c .before .before .before .before .before);
-      whole = c .before .before .before .before .if2 .left;
-      block = record { in-row = c .before .before .if3 .left; in-column = c .if4 .left };
-    }
+rest : (c : tie.Else1)
+    → let a = c .before .before .before .args in
+    let bs = bandsOf (a .all) (now (a .bands)) in
+    blockNumber (a .grid) (a .image) (a .block-row) (a .block-col) (a .resolution-level) bs (a .room)
+    ≡ blockQuestions (a .grid) (a .image) (a .block-row) (a .block-col) (a .resolution-level) bs (a .room)
+unfolding blockNumber
+rest c = grid-yes _ _ (accepted c)
 
-in-image : (c : tie.Else6) → let a = c .before .before .before .before .before .before .before .before .before .before .before .before .args in InImage (a .grid) (a .image) (a .block-row) (a .block-col) (a .resolution-level) (bandsOf (a .all) (now (a .bands)))
-in-image c =
-    record {
-      in-grid = in-grid (c .before .before .before .before);
-      reached = rw (c .before .before .before .block-end .ensures) at (c .before .before .if5 .left);
-      bands-in = yes (c .before .bands-below .ensures) (c .if6 .left);
-    }
+q5-yes : (c : tie.Else2) → q5 (c .before .before .before .before .args .resolution-level) ≡ true
+q5-yes c = eq-eqb _ _ (c .if2 .left)
+
+q6-yes : (c : tie.Else3) → let a = past-5 c .before .before .before .before .args in q6 (a .grid) (a .block-row) (a .block-col) ≡ true
+q6-yes c = yes (c .before .has-block .ensures) (c .if3 .left)
+
+q7-yes : (c : tie.Else4)
+    → let a = past-5 (past-6 c) .before .before .before .before .args in q7 (a .grid) (a .image) (a .block-row) (a .block-col) ≡ true
+q7-yes c = le-leb _ _ (rw (c .before .block-end .ensures) at (c .if4 .left))
 
 -- a band of the answer
-in-plane : (c : tie.After-actual-columns) → let a = c .before .before .before .before .before .before .before .before .before .before .before .before .before .before .args in Plane (a .grid) (a .block-row) (a .block-col)
-in-plane c = let t = in-grid (c .before .before .before .before .before .before) in plane _ (t .accepted) _ _ (t .block)
-
-plane-is : (c : tie.After-sample-bytes)
-    → let a = c .before .before .before .before .before .before .before .before .before .before .before .before .before .before .before .args in c .before .before .actual-rows .result * c .before .actual-columns .result * c .sample-bytes .result ≡ planeBytes (a .grid) (a .block-row) (a .block-col)
-plane-is c = rw (c .before .before .actual-rows .ensures, c .before .actual-columns .ensures, c .sample-bytes .ensures)
+band : (c : tie.Else5) → let a = past-5 (past-6 (c .before .before)) .before .before .before .before .args in Plane (a .grid) (a .block-row) (a .block-col)
+band c = let b = past-6 (c .before .before) in plane _ (accepted (past-5 b .before)) _ _ (block-in _ _ _ (q6-yes b))
 
 check-requires : tie.Need-check-requires
 check-requires c κs = search needs
 
 returns : tie.Need-returns
-returns c =
-    let a = c .before .before .before .args in
-    c .before .check .ensures ∙ read-grid (a .grid) (a .image) (a .block-row) (a .block-col) (a .resolution-level) (bandsOf (a .all) (now (a .bands))) (a .room) (λ e. c .if1 .taken (c .before .check .ensures ∙ e))
+unfolding blockNumber
+returns c = c .before .check .ensures ∙ sym (grid-no _ _ (λ e. c .if1 .taken (c .before .check .ensures ∙ e)))
 
 returns-2 : tie.Need-returns-2
-returns-2 c =
-    let a = c .before .before .before .before .args in
-    read-5 (a .grid) (a .image) (a .block-row) (a .block-col) (a .resolution-level) (bandsOf (a .all) (now (a .bands))) (a .room) (accepted (c .before)) (c .if2 .taken)
+returns-2 c = rw (rest (c .before), ne-eqb _ _ (c .if2 .taken))
+
+has-block-requires : tie.Need-has-block-requires
+has-block-requires c κs = search needs
 
 returns-3 : tie.Need-returns-3
 returns-3 c =
-    let a = c .before .before .before .before .before .before .args in
-    read-row (a .grid) (a .image) (a .block-row) (a .block-col) (a .resolution-level) (bandsOf (a .all) (now (a .bands))) (a .room) (accepted (c .before .before .before)) (c .before .before .if2 .left) (c .if3 .taken)
+    let d = c .before .before in
+    rw (rest (d .before), q5-yes d, no (c .before .has-block .ensures) (c .if3 .taken))
+
+block-end-requires : tie.Need-block-end-requires
+block-end-requires c κs = (accepted (past-5 c .before), block-in _ _ _ (q6-yes c))
 
 returns-4 : tie.Need-returns-4
 returns-4 c =
-    let a = c .before .before .before .before .before .before .before .before .args in
-    read-column (a .grid) (a .image) (a .block-row) (a .block-col) (a .resolution-level) (bandsOf (a .all) (now (a .bands))) (a .room) (accepted (c .before .before .before .before .before)) (c .before .before .before .before .if2 .left) (c .before .before .if3 .left) (c .if4 .taken)
-
-block-end-requires : tie.Need-block-end-requires
-block-end-requires c κs = let t = in-grid c in (t .accepted, t .block)
-
-returns-5 : tie.Need-returns-5
-returns-5 c =
-    let a = c .before .before .before .before .before .before .before .before .before .before .args in
-    read-7 (a .grid) (a .image) (a .block-row) (a .block-col) (a .resolution-level) (bandsOf (a .all) (now (a .bands))) (a .room) (in-grid (c .before .before)) (rw (c .before .block-end .ensures) at (c .if5 .taken))
+    let b = c .before .before in
+    let d = past-5 b in
+    rw (rest (d .before), q5-yes d, q6-yes b, lt-leb _ _ (rw (c .before .block-end .ensures) at (c .if4 .taken)))
 
 bands-below-requires : tie.Need-bands-below-requires
 bands-below-requires c κs = search needs
 
-returns-6 : tie.Need-returns-6
-returns-6 c =
-    let a = c .before .before .before .before .before .before .before .before .before .before .before .before .args in
-    read-8 (a .grid) (a .image) (a .block-row) (a .block-col) (a .resolution-level) (bandsOf (a .all) (now (a .bands))) (a .room) (in-grid (c .before .before .before .before)) (rw (c .before .before .before .block-end .ensures) at (c .before .before .if5 .left)) (no (c .before .bands-below .ensures) (c .if6 .taken))
+returns-5 : tie.Need-returns-5
+returns-5 c =
+    let r = c .before .before in
+    let b = past-6 r in
+    let d = past-5 b in
+    rw (rest (d .before), q5-yes d, q6-yes b, q7-yes r, no (c .before .bands-below .ensures) (c .if5 .taken))
 
 actual-rows-requires : tie.Need-actual-rows-requires
-actual-rows-requires c κs = search needs
+actual-rows-requires c κs = let b = past-6 (c .before .before) in (accepted (past-5 b .before), block-in _ _ _ (q6-yes b) .in-row)
 
 actual-columns-requires : tie.Need-actual-columns-requires
-actual-columns-requires c κs = search needs
+actual-columns-requires c κs = let b = past-6 (c .before .before .before) in (accepted (past-5 b .before), block-in _ _ _ (q6-yes b) .in-column)
 
 mul-plane : tie.Need-mul-plane
-mul-plane c = rw (c .before .actual-rows .ensures, c .actual-columns .ensures) (record { fits = in-plane c .samples })
+mul-plane c = rw (c .before .actual-rows .ensures, c .actual-columns .ensures) (record { fits = band (c .before .before) .samples })
 
 sample-bytes-requires : tie.Need-sample-bytes-requires
 sample-bytes-requires c κs = search needs
 
 mul-plane-2 : tie.Need-mul-plane-2
-mul-plane-2 c = rw (plane-is c) (record { fits = in-plane (c .before) .bytes })
-
-div-if7 : tie.Need-div-if7
-div-if7 c = rw (plane-is c) (in-plane (c .before) .some)
+mul-plane-2 c =
+    rw (c .before .before .actual-rows .ensures, c .before .actual-columns .ensures, c .sample-bytes .ensures)
+    (record { fits = band (c .before .before .before) .bytes })
 
 band-count-requires : tie.Need-band-count-requires
 band-count-requires c κs = search needs
 
+product-fits-requires : tie.Need-product-fits-requires
+product-fits-requires c κs = search needs
+
+-- question 9, as the code asks it
+q9-is : (c : tie.After-product-fits)
+    → let a = past-5 (past-6 (past-8 c .before .before)) .before .before .before .before .args in
+    c .product-fits .result ≡ roomFor (a .grid) (a .block-row) (a .block-col) (bandsOf (a .all) (now (a .bands))) (a .room)
+q9-is c =
+    let n = c .before in
+    let s = n .before in
+    rw (s .before .before .actual-rows .ensures, s .before .actual-columns .ensures, s .sample-bytes .ensures, n .band-count .ensures) at
+    (c .product-fits .ensures)
+    ∙ room-is _ _ _ _ _
+
+-- the number, once question 8 is passed
+last : (c : tie.After-product-fits)
+    → let a = past-5 (past-6 (past-8 c .before .before)) .before .before .before .before .args in
+    let bs = bandsOf (a .all) (now (a .bands)) in
+    blockNumber (a .grid) (a .image) (a .block-row) (a .block-col) (a .resolution-level) bs (a .room) ≡ ask 9 (c .product-fits .result) 0
+last c =
+    let e = past-8 c in
+    let r = e .before .before in
+    let b = past-6 r in
+    let d = past-5 b in
+    rw (rest (d .before), q5-yes d, q6-yes b, q7-yes r, yes (e .before .bands-below .ensures) (e .if5 .left))
+    (ap (λ (b : Bool). ask 9 b 0) (sym (q9-is c)))
+
+returns-6 : tie.Need-returns-6
+returns-6 c =
+    let e : c .before .product-fits .result ≡ false = not-true _ (c .if6 .taken) in
+    sym (last (c .before) ∙ ap (λ (b : Bool). ask 9 b 0) e)
+
 returns-7 : tie.Need-returns-7
 returns-7 c =
-    let a = c .before .before .before .before .before .before .before .before .before .before .before .before .before .before .before .before .before .args in
-    read-9 (a .grid) (a .image) (a .block-row) (a .block-col) (a .resolution-level) (bandsOf (a .all) (now (a .bands))) (a .room) (in-image (c .before .before .before .before .before)) (rw (plane-is (c .before .before), c .before .band-count .ensures) at (c .if7 .taken))
-
-returns-8 : tie.Need-returns-8
-returns-8 c =
-    let a = c .before .before .before .before .before .before .before .before .before .before .before .before .before .before .before .before .before .args in
-    read-0 (a .grid) (a .image) (a .block-row) (a .block-col) (a .resolution-level) (bandsOf (a .all) (now (a .bands))) (a .room) (in-image (c .before .before .before .before .before)) (rw (plane-is (c .before .before), c .before .band-count .ensures) at (c .if7 .left))
+    let e : c .before .product-fits .result ≡ true = not-false _ (c .if6 .left) in
+    sym (last (c .before) ∙ ap (λ (b : Bool). ask 9 b 0) e)
 
 pub block-number-spec : {M : Type 1} → statement M
 block-number-spec =
@@ -115,18 +153,18 @@ block-number-spec =
     check-requires
     returns
     returns-2
+    has-block-requires
     returns-3
-    returns-4
     block-end-requires
-    returns-5
+    returns-4
     bands-below-requires
-    returns-6
+    returns-5
     actual-rows-requires
     actual-columns-requires
     mul-plane
     sample-bytes-requires
     mul-plane-2
-    div-if7
     band-count-requires
-    returns-7
-    returns-8)
+    product-fits-requires
+    returns-6
+    returns-7)

@@ -1,4 +1,4 @@
--- `main` lends its array.
+-- `recorded_answers::main` lends its array.
 -- Assumes nothing.
 use borrow.Author.Needs.{needs}
 use mathlib.Core.Path.{sym}

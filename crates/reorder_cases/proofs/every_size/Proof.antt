@@ -1,6 +1,6 @@
--- `every_size` ends.
+-- `reorder_cases::every_size` ends.
 -- Assumes nothing.
-use Prim.Native.Nat.{_+_, _-_, _≤_}
+use Prim.Native.Nat.{_-_, _≤_}
 use native.Mathlib.Omega.{arith}
 use borrow.Author.Needs.{needs}
 use Rattle.reorder_cases.proofs.every_size.Statement.{statement}

@@ -1,4 +1,4 @@
--- `to_bands` hands over a part of its data, inside them.
+-- `reorder_cases::to_bands` hands over a part of its data, inside them.
 -- Assumes nothing.
 use mathlib.Core.Path.{sym}
 use native.Mathlib.Omega.{arith}

@@ -3,10 +3,10 @@
 use Prim.Native.Nat.{_+_}
 use native.Mathlib.Omega.{arith}
 use borrow.Author.Tests.{le-leb, lt-leb}
-use Rattle.grid.specs.Questions.{every}
-use Rattle.grid.proofs.Questions.{every-last}
-use Rattle.windows.specs.Windows.{inside}
-use Rattle.windows.proofs.Asked.{leb-left}
+use Rattle.common.specs.Tests.{every}
+use Rattle.common.proofs.Tests.{every-last}
+use Rattle.windows.specs.Internal.Windows.{inside}
+use Rattle.windows.proofs.WindowQuestions.{leb-left}
 use Rattle.windows.proofs.is_inside.Statement.{statement}
 use Rattle.windows.proofs.is_inside.Tie as tie
 

@@ -1,10 +1,13 @@
 -- `windows::read_window` meets its contract.
 -- Assumes nothing.
 use borrow.Author.Needs.{needs}
+use mathlib.Core.Path.{sym, _∙_}
 use denote.Ref.{now}
-use Rattle.grid.specs.Bands.{bandsOf}
-use Rattle.windows.specs.Windows.{rectangle}
-use Rattle.windows.proofs.Answers.{window-refused, window-read}
+use Rattle.calls.specs.Orders.{rectangle}
+use Rattle.common.proofs.Questions.{refused-by}
+use Rattle.layout.specs.Bands.{bandsOf}
+use Rattle.calls.specs.Reads.{noShape, filledWith, windowOf, window}
+use Rattle.windows.proofs.Answers.{window-read}
 use Rattle.windows.proofs.read_window.Statement.{statement}
 use Rattle.windows.proofs.read_window.Tie as tie
 
@@ -15,7 +18,10 @@ refused-requires : tie.Need-refused-requires
 refused-requires c κs = search needs
 
 returns : tie.Need-returns
-returns c = rw (c .refused .ensures) (window-refused _ _ _ _ (c .before .before .window-number .ensures) (c .before .if1 .taken))
+unfolding window windowOf
+returns c =
+    rw (c .refused .ensures)
+    (refused-by _ (λ n. filledWith (noShape n) _) (c .before .before .window-number .ensures) (c .before .if1 .taken))
 
 read-rectangle-requires : tie.Need-read-rectangle-requires
 read-rectangle-requires c κs = search needs
@@ -28,10 +34,12 @@ same-length c = search needs
 
 returns-2 : tie.Need-returns-2
 returns-2 c =
-    let a = c .before .before .before .before .before .before .before .before .before .before .args in
+    let read = c .before .before .before in
+    let passed = read .before .before in
+    let a = passed .before .before .before .before .before .args in
     rw (c .band-count .ensures)
     (window-read (a .grid) (now (a .image)) (rectangle (a .row) (a .column) (a .rows) (a .columns) (bandsOf (a .all) (now (a .bands)))) (now (a .out))
-    (c .before .before .before .before .before .before .window-number .ensures) (c .before .before .before .before .before .if1 .left) (c .before .before .before .read-rectangle .ensures))
+    (sym (passed .before .window-number .ensures) ∙ passed .if1 .left) (read .read-rectangle .ensures))
 
 pub read-window-spec : {M : Type 1} → statement M
 read-window-spec =

@@ -1,24 +1,24 @@
 -- `windows::window_number` meets its contract, question by question.
 -- Assumes nothing.
 use borrow.Author.Needs.{needs}
-use Prim.Native.Nat.{_+_, _-_, _*_, _/_}
+use Prim.Native.Nat.{_+_, _-_}
 use mathlib.Core.Path.{_≡_, sym, ap, _∙_}
 use mathlib.Core.Bool.{Bool, true, false}
 use denote.Ref.{now}
 use native.Mathlib.Omega.{arith}
 use native.Mathlib.Nat.{div-le-self}
-use borrow.Author.Tests.{le-leb, lt-leb}
-use lib.Dec.{leb}
-use Rattle.grid.specs.Questions.{ask, every}
+use borrow.Author.Tests.{le-leb, lt-leb, not-true, not-false}
+use Rattle.common.specs.Questions.{ask}
+use Rattle.common.specs.Tests.{every}
 use Rattle.grid.specs.Check.{Accepted}
 use Rattle.grid.specs.Sizes.{sampleBytes}
-use Rattle.grid.specs.Bands.{bandsOf, q8}
-use Rattle.grid.proofs.Questions.{no, yes}
+use Rattle.layout.specs.Bands.{bandsOf, bandCount, q8, q9}
+use Rattle.layout.proofs.Listed.{room-is}
+use Rattle.common.proofs.Flags.{no, yes}
 use Rattle.grid.proofs.Accepted.{facts, grid-no}
-use Rattle.frame.specs.Reads.{Window, q7, q10, windowNumber}
-use Rattle.frame.proofs.WindowLaws.{InPicture, q10-facts}
-use Rattle.windows.specs.Windows.{rectangle}
-use Rattle.windows.proofs.Asked.{after-grid, q10-sides, last-block, q7-last, Plane, plane, q9-by-plane}
+use Rattle.calls.specs.Orders.{Window, q7Window, q10, windowNumber, rectangle}
+use Rattle.calls.proofs.WindowLaws.{InPicture, q10-facts}
+use Rattle.windows.proofs.WindowQuestions.{after-grid, q10-sides, last-block, q7-last, Plane, plane}
 use Rattle.windows.proofs.window_number.Statement.{statement}
 use Rattle.windows.proofs.window_number.Tie as tie
 
@@ -26,41 +26,65 @@ use Rattle.windows.proofs.window_number.Tie as tie
 abbrev asked : tie.Start → Window
 asked s = let a = s .args in rectangle (a .row) (a .column) (a .rows) (a .columns) (bandsOf (a .all) (now (a .bands)))
 
+-- earlier places of the code: where questions 4, 10, 7 and 8 are passed, and the function's start
+abbrev past-4 : tie.Else3 → tie.Else1
+past-4 c = c .before .before .before .before
+
+abbrev start : tie.Else3 → tie.Start
+start c = past-4 c .before .before .before
+
+abbrev past-10 : tie.Else4 → tie.Else3
+past-10 c = c .before .before .before .before
+
+abbrev past-7 : tie.Else5 → tie.Else4
+past-7 c = c .before .before
+
+abbrev past-8 : tie.After-product-fits → tie.Else5
+past-8 c = c .before .before .before
+
 -- past question 4
 accepted : (c : tie.Else1) → Accepted (c .before .before .before .args .grid)
 accepted c = sym (c .before .check .ensures) ∙ c .if1 .left
 
 -- past question 10
-q10-yes : (c : tie.Else3) → let s = c .before .before .before .before .before .before .before in q10 (s .args .grid) (asked s) ≡ true
+q10-yes : (c : tie.Else3) → let s = start c in q10 (s .args .grid) (asked s) ≡ true
 unfolding every
 q10-yes c =
     rw (q10-sides, yes (c .before .before .before .is-inside .ensures) (c .before .before .if2 .left), yes (c .before .is-inside2 .ensures) (c .if3 .left))
 
-picture : (c : tie.Else3) → let s = c .before .before .before .before .before .before .before in InPicture (s .args .grid) (asked s)
+picture : (c : tie.Else3) → let s = start c in InPicture (s .args .grid) (asked s)
 picture c = q10-facts _ _ (q10-yes c)
 
 -- past question 7
-q7-yes : (c : tie.Else4) → let s = c .before .before .before .before .before .before .before .before .before .before .before in q7 (s .args .grid) (s .args .image) (asked s) ≡ true
+q7-yes : (c : tie.Else4) → let s = start (past-10 c) in q7Window (s .args .grid) (s .args .image) (asked s) ≡ true
 q7-yes c =
-    let d = c .before .before .before .before in
-    q7-last _ (accepted (d .before .before .before .before)) _ _ (q10-yes d) ∙ le-leb _ _ (rw (c .before .block-end .ensures) at (c .if4 .left))
+    let d = past-10 c in
+    q7-last _ (accepted (past-4 d)) _ _ (q10-yes d) ∙ le-leb _ _ (rw (c .before .block-end .ensures) at (c .if4 .left))
 
 -- past question 8
-q8-yes : (c : tie.Else5) → let s = c .before .before .before .before .before .before .before .before .before .before .before .before .before in q8 (s .args .grid .bands) (asked s .bands) ≡ true
+q8-yes : (c : tie.Else5) → let s = start (past-10 (past-7 c)) in q8 (s .args .grid .bands) (asked s .bands) ≡ true
 q8-yes c = yes (c .before .bands-below .ensures) (c .if5 .left)
 
-band : (c : tie.Else5) → let a = c .before .before .before .before .before .before .before .before .before .before .before .before .before .args in Plane (a .rows) (a .columns) (sampleBytes (a .grid))
-band c = let d = c .before .before .before .before .before .before in plane _ (facts _ (accepted (d .before .before .before .before))) _ (picture d)
+band : (c : tie.Else5) → let a = start (past-10 (past-7 c)) .args in Plane (a .rows) (a .columns) (sampleBytes (a .grid))
+band c = let d = past-10 (past-7 c) in plane _ (facts _ (accepted (past-4 d))) _ (picture d)
 
--- what question 9 leaves
-left : (c : tie.After-band-count)
-    → let s = c .before .before .before .before .before .before .before .before .before .before .before .before .before .before .before in
-    windowNumber (s .args .grid) (s .args .image) (asked s) (s .args .room)
-    ≡ ask 9 (leb (c .band-count .result) (s .args .room / (s .args .rows * s .args .columns * c .before .sample-bytes .result))) 0
-left c =
-    let d = c .before .before .before .before .before .before .before .before in
-    rw (after-grid _ _ _ _ (accepted (d .before .before .before .before)), q10-yes d, q7-yes (c .before .before .before .before), q8-yes (c .before .before), c .band-count .ensures, c .before .sample-bytes .ensures)
-    (ap (λ (b : Bool). ask 9 b 0) (sym (q9-by-plane _ _ _ _ _ (band (c .before .before) .some))))
+-- question 9, as the code asks it
+q9-is : (c : tie.After-product-fits)
+    → let s = start (past-10 (past-7 (past-8 c))) in
+    let w = asked s in
+    c .product-fits .result ≡ q9 (bandCount (s .args .grid .bands) (w .bands)) (w .rows) (w .columns) (sampleBytes (s .args .grid)) (s .args .room)
+q9-is c =
+    rw (c .before .before .sample-bytes .ensures, c .before .band-count .ensures) at (c .product-fits .ensures) ∙ room-is _ _ _ _ _
+
+-- the number, once question 8 is passed
+last : (c : tie.After-product-fits)
+    → let s = start (past-10 (past-7 (past-8 c))) in
+    windowNumber (s .args .grid) (s .args .image) (asked s) (s .args .room) ≡ ask 9 (c .product-fits .result) 0
+last c =
+    let e = past-8 c in
+    let d = past-10 (past-7 e) in
+    rw (after-grid _ _ _ _ (accepted (past-4 d)), q10-yes d, q7-yes (past-7 e), q8-yes e)
+    (ap (λ (b : Bool). ask 9 b 0) (sym (q9-is c)))
 
 check-requires : tie.Need-check-requires
 check-requires c κs = search needs
@@ -103,32 +127,33 @@ div-last-column c = facts _ (accepted (c .before .before .before .before .before
 
 cast-block-end : tie.Need-cast-block-end
 cast-block-end c =
-    let a = c .before .before .before .before .before .before .before .before .before .args in
+    let a = start (c .before .before) .args in
     record { fits = omega (arith, div-le-self (a .row + (a .rows - 1)) (a .grid .nppbv)) }
 
 cast-block-end-2 : tie.Need-cast-block-end-2
 cast-block-end-2 c =
-    let a = c .before .before .before .before .before .before .before .before .before .args in
+    let a = start (c .before .before) .args in
     record { fits = omega (arith, div-le-self (a .column + (a .columns - 1)) (a .grid .nppbh)) }
 
 block-end-requires : tie.Need-block-end-requires
 block-end-requires c κs =
     let d = c .before .before in
-    (accepted (d .before .before .before .before), last-block _ (facts _ (accepted (d .before .before .before .before))) _ (picture d))
+    (accepted (past-4 d), last-block _ (facts _ (accepted (past-4 d))) _ (picture d))
 
 returns-4 : tie.Need-returns-4
 returns-4 c =
     let d = c .before .before .before .before in
-    let q : q7 _ _ _ ≡ false = q7-last _ (accepted (d .before .before .before .before)) _ _ (q10-yes d) ∙ lt-leb _ _ (rw (c .before .block-end .ensures) at (c .if4 .taken)) in
-    rw (after-grid _ _ _ _ (accepted (d .before .before .before .before)), q10-yes d, q)
+    let q : q7Window _ _ _ ≡ false = q7-last _ (accepted (past-4 d)) _ _ (q10-yes d) ∙ lt-leb _ _ (rw (c .before .block-end .ensures) at (c .if4 .taken)) in
+    rw (after-grid _ _ _ _ (accepted (past-4 d)), q10-yes d, q)
 
 bands-below-requires : tie.Need-bands-below-requires
 bands-below-requires c κs = search needs
 
 returns-5 : tie.Need-returns-5
 returns-5 c =
-    let d = c .before .before .before .before .before .before in
-    rw (after-grid _ _ _ _ (accepted (d .before .before .before .before)), q10-yes d, q7-yes (c .before .before), no (c .before .bands-below .ensures) (c .if5 .taken))
+    let b = c .before .before in
+    let d = b .before .before .before .before in
+    rw (after-grid _ _ _ _ (accepted (past-4 d)), q10-yes d, q7-yes b, no (c .before .bands-below .ensures) (c .if5 .taken))
 
 mul-plane : tie.Need-mul-plane
 mul-plane c = record { fits = band c .samples }
@@ -139,17 +164,21 @@ sample-bytes-requires c κs = search needs
 mul-plane-2 : tie.Need-mul-plane-2
 mul-plane-2 c = rw (c .sample-bytes .ensures) (record { fits = band (c .before) .bytes })
 
-div-if6 : tie.Need-div-if6
-div-if6 c = rw (c .sample-bytes .ensures) (band (c .before) .some)
-
 band-count-requires : tie.Need-band-count-requires
 band-count-requires c κs = search needs
 
+product-fits-requires : tie.Need-product-fits-requires
+product-fits-requires c κs = search needs
+
 returns-6 : tie.Need-returns-6
-returns-6 c = rw (left (c .before), lt-leb _ _ (c .if6 .taken))
+returns-6 c =
+    let e : c .before .product-fits .result ≡ false = not-true _ (c .if6 .taken) in
+    sym (last (c .before) ∙ ap (λ (b : Bool). ask 9 b 0) e)
 
 returns-7 : tie.Need-returns-7
-returns-7 c = rw (left (c .before), le-leb _ _ (c .if6 .left))
+returns-7 c =
+    let e : c .before .product-fits .result ≡ true = not-false _ (c .if6 .left) in
+    sym (last (c .before) ∙ ap (λ (b : Bool). ask 9 b 0) e)
 
 pub window-number-spec : {M : Type 1} → statement M
 window-number-spec =
@@ -176,7 +205,7 @@ window-number-spec =
     mul-plane
     sample-bytes-requires
     mul-plane-2
-    div-if6
     band-count-requires
+    product-fits-requires
     returns-6
     returns-7)

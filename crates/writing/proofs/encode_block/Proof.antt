@@ -5,12 +5,18 @@ use mathlib.Core.Path.{_≡_, refl, sym, _∙_}
 use denote.Ref.{now}
 use lib.ListN.{length}
 use Rattle.grid.specs.Layout.{Block}
-use Rattle.frame.specs.Writes.{number, left, writeBy, write, writeNumber}
-use Rattle.frame.proofs.Numbers.{Enough, write-facts}
-use Rattle.writing.proofs.Refusals.{refused, write-data}
-use Rattle.writing.proofs.Bounds.{mark-in}
+use Rattle.calls.specs.Writes.{unchanged, write}
+use Rattle.calls.specs.Orders.{writeNumber}
+use Rattle.calls.proofs.Numbers.{Enough, write-facts, write-data}
+use Rattle.common.specs.Questions.{outcome}
+use Rattle.common.proofs.Questions.{refused-by}
+use Rattle.writing.proofs.Stores.{mark-in, writable, store-is}
 use Rattle.writing.proofs.encode_block.Statement.{statement}
 use Rattle.writing.proofs.encode_block.Tie as tie
+
+-- where the call is accepted
+abbrev passed : tie.After-store-block → tie.Else1
+passed c = c .before .before .before
 
 -- the call is accepted, and what that tells
 zero : (c : tie.Else1)
@@ -29,23 +35,27 @@ answer-requires : tie.Need-answer-requires
 answer-requires c κs = search needs
 
 returns : tie.Need-returns
-unfolding write writeBy
+unfolding write
 returns c =
-    let a = c .before .before .before .before .before .before .args in
+    let asked = c .before .before in
+    let a = asked .before .before .before .before .args in
     rw (c .answer .ensures)
-    (refused (λ n. writeBy n (a .grid) (now (a .image)) (now (a .marks)) (a .block-row) (a .block-col) (now (a .«data»))) (λ n. left (number n) (now (a .image)) (now (a .marks))) (λ n. refl)
-    (c .before .before .write-number .ensures) (c .before .if1 .taken))
+    (refused-by _ (unchanged (now (a .image)) (now (a .marks))) (asked .write-number .ensures) (c .before .if1 .taken))
+
+block-layout-requires : tie.Need-block-layout-requires
+block-layout-requires c κs = let k = enough (c .before) in (k .0 .accepted, k .1)
 
 store-block-requires : tie.Need-store-block-requires
 store-block-requires c κs =
-    let k = enough (c .before) in
-    record { accepted = k .0 .accepted; block = k .1; data-is = write-data _ _ _ _ _ _ _ _ _ (zero (c .before)); image-holds = k .0 .bytes }
+    let h = c .before .before in
+    let k = enough h in
+    rw (c .block-layout .ensures) (writable _ (k .0 .accepted) _ _ (k .1) _ _ (write-data _ _ _ _ _ _ _ _ _ (zero h)) (k .0 .bytes))
 
 block-index-requires : tie.Need-block-index-requires
-block-index-requires c κs = let k = enough (c .before .before .before .before .before) in (k .0 .accepted, k .1)
+block-index-requires c κs = let k = enough (passed (c .before .before .before)) in (k .0 .accepted, k .1)
 
 set-mark-requires : tie.Need-set-mark-requires
-set-mark-requires c κs = let k = enough (c .before .before .before .before .before .before) in rw (c .block-index .ensures) (mark-in _ _ _ _ (k .0 .words) (k .1))
+set-mark-requires c κs = let k = enough (passed (c .before .before .before .before)) in rw (c .block-index .ensures) (mark-in _ _ _ _ (k .0 .words) (k .1))
 
 answer-requires-2 : tie.Need-answer-requires-2
 answer-requires-2 c κs = search needs
@@ -57,14 +67,18 @@ same-length-2 : tie.Need-same-length-2
 same-length-2 c = search needs
 
 returns-2 : tie.Need-returns-2
-unfolding write writeBy
+unfolding write outcome
 returns-2 c =
+    let marked = c .before .before .before in
+    let stored = marked .before .before .before .before .before in
+    let a = passed stored .before .before .before .before .before .args in
     rw (
       c .answer2 .ensures,
-      c .before .before .before .before .before .before .before .before .store-block .ensures,
-      c .before .before .before .set-mark .ensures,
-      c .before .before .before .before .block-index .ensures,
-      zero (c .before .before .before .before .before .before .before .before .before .before),
+      rw (stored .before .block-layout .ensures) at (stored .store-block .ensures)
+          ∙ store-is (a .grid) (a .block-row) (a .block-col) (now (a .«data»)) (now (a .image)),
+      marked .set-mark .ensures,
+      marked .before .block-index .ensures,
+      zero (passed stored),
     )
 
 pub encode-block-spec : {M : Type 1} → statement M
@@ -74,6 +88,7 @@ encode-block-spec =
     write-number-requires
     answer-requires
     returns
+    block-layout-requires
     store-block-requires
     block-index-requires
     set-mark-requires

@@ -7,19 +7,21 @@ use denote.Ref.{now}
 use lib.ListN.{length}
 use Rattle.grid.proofs.Accepted.{facts, across-pos}
 use Rattle.marks.specs.Marks.{marked}
-use Rattle.frame.specs.Writes.{number, unmarkedAnswer, finishAnswer, finish, finishNumber, startNumber}
-use Rattle.frame.proofs.Numbers.{Enough, finish-facts}
-use Rattle.writing.proofs.Refusals.{refused}
+use Rattle.calls.specs.Writes.{number, unmarkedAnswer, finishAnswer, finish}
+use Rattle.calls.specs.Orders.{startNumber}
+use Rattle.calls.proofs.Numbers.{Enough, start-facts}
+use Rattle.common.specs.Questions.{outcome}
+use Rattle.common.proofs.Questions.{refused-by}
 use Rattle.writing.proofs.finalize.Statement.{statement}
 use Rattle.writing.proofs.finalize.Tie as tie
 
 -- the call is accepted, and what that tells
-zero : (c : tie.Else1) → let a = c .before .before .before .before .args in finishNumber (a .grid) (length (now (a .image))) (length (now (a .marks))) ≡ 0
-unfolding startNumber finishNumber
+zero : (c : tie.Else1) → let a = c .before .before .before .before .args in startNumber (a .grid) (length (now (a .image))) (length (now (a .marks))) ≡ 0
+unfolding startNumber
 zero c = sym (c .before .buffers-number .ensures) ∙ c .if1 .left
 
 enough : (c : tie.Else1) → let a = c .before .before .before .before .args in Enough (a .grid) (length (now (a .image))) (length (now (a .marks)))
-enough c = finish-facts _ _ _ (zero c)
+enough c = start-facts _ _ _ (zero c)
 
 buffers-number-requires : tie.Need-buffers-number-requires
 buffers-number-requires c κs = search needs
@@ -28,11 +30,8 @@ answer-requires : tie.Need-answer-requires
 answer-requires c κs = search needs
 
 returns : tie.Need-returns
-unfolding finish finishAnswer startNumber finishNumber
-returns c =
-    let a = c .before .before .before .before .before .args in
-    rw (c .answer .ensures)
-    (refused (λ n. finishAnswer n (a .grid) (marked (now (a .marks)))) (λ n. number n) (λ n. refl) (c .before .before .buffers-number .ensures) (c .before .if1 .taken))
+unfolding finish
+returns c = rw (c .answer .ensures) (refused-by _ number (c .before .before .buffers-number .ensures) (c .before .if1 .taken))
 
 cast-first-unmarked : tie.Need-cast-first-unmarked
 cast-first-unmarked c = search needs
@@ -56,11 +55,11 @@ enum-known-found : tie.Need-enum-known-found
 enum-known-found c = search needs
 
 returns-2 : tie.Need-returns-2
-unfolding finish finishAnswer
+unfolding finish outcome
 returns-2 c = rw (c .answer2 .ensures, zero (c .before .before .before .before .before .before)) (ap unmarkedAnswer (sym (c .before .enum-told .given .1) ∙ c .before .before .before .first-unmarked .ensures))
 
 returns-3 : tie.Need-returns-3
-unfolding finish finishAnswer
+unfolding finish outcome
 returns-3 c = rw (zero (c .before .before .before .before .before .before)) (ap unmarkedAnswer (sym (c .before .found .given .1) ∙ c .before .before .before .first-unmarked .ensures))
 
 pub finalize-spec : {M : Type 1} → statement M

@@ -6,11 +6,13 @@ use native.Mathlib.Omega.{arith}
 use denote.Ref.{now}
 use lib.ListN.{length}
 use Rattle.grid.specs.Check.{Accepted}
-use Rattle.grid.proofs.Accepted.{grid-inv}
+use Rattle.grid.proofs.Accepted.{grid-inv, accepted-of}
 use Rattle.marks.specs.Marks.{marked}
-use Rattle.frame.specs.Writes.{number, progressAnswer, progress, progressNumber}
-use Rattle.frame.proofs.Numbers.{accepted-of, progress-facts}
-use Rattle.writing.proofs.Refusals.{refused}
+use Rattle.calls.specs.Writes.{number, progressAnswer, progress}
+use Rattle.calls.specs.Orders.{progressNumber}
+use Rattle.calls.proofs.Numbers.{progress-facts}
+use Rattle.common.specs.Questions.{outcome}
+use Rattle.common.proofs.Questions.{refused-by}
 use Rattle.writing.proofs.progress.Statement.{statement}
 use Rattle.writing.proofs.progress.Tie as tie
 
@@ -29,11 +31,11 @@ answer-requires : tie.Need-answer-requires
 answer-requires c κs = search needs
 
 returns : tie.Need-returns
-unfolding progress progressAnswer
+unfolding progress
 returns c =
     let a = c .before .before .before .before .args in
     rw (c .answer .ensures)
-    (refused (λ n. progressAnswer n (a .grid) (marked (now (a .marks)))) (λ n. number n) (λ n. refl) (c .before .before .marks-number .ensures) (c .before .if1 .taken))
+    (refused-by _ number (c .before .before .marks-number .ensures) (c .before .if1 .taken))
 
 blocks-requires : tie.Need-blocks-requires
 blocks-requires c κs = accepted c
@@ -42,7 +44,7 @@ count-marks-requires : tie.Need-count-marks-requires
 count-marks-requires c κs = omega (arith, c .blocks2 .ensures, progress-facts _ _ (zero (c .before)))
 
 returns-2 : tie.Need-returns-2
-unfolding progress progressAnswer
+unfolding progress outcome
 returns-2 c = rw (c .count-marks .ensures, c .before .blocks2 .ensures, zero (c .before .before))
 
 pub progress-spec : {M : Type 1} → statement M

@@ -5,10 +5,12 @@ use mathlib.Core.Path.{_≡_, refl, sym, _∙_}
 use denote.Ref.{now}
 use lib.ListN.{length}
 use Rattle.grid.specs.Layout.{Block}
-use Rattle.frame.specs.Writes.{number, left, skipBy, skip, skipNumber}
-use Rattle.frame.proofs.Numbers.{Enough, skip-facts}
-use Rattle.writing.proofs.Refusals.{refused}
-use Rattle.writing.proofs.Bounds.{mark-in}
+use Rattle.calls.specs.Writes.{unchanged, skip}
+use Rattle.calls.specs.Orders.{skipNumber}
+use Rattle.calls.proofs.Numbers.{Enough, skip-facts}
+use Rattle.common.specs.Questions.{outcome}
+use Rattle.common.proofs.Questions.{refused-by}
+use Rattle.writing.proofs.Stores.{mark-in}
 use Rattle.writing.proofs.skip_block.Statement.{statement}
 use Rattle.writing.proofs.skip_block.Tie as tie
 
@@ -29,12 +31,11 @@ answer-requires : tie.Need-answer-requires
 answer-requires c κs = search needs
 
 returns : tie.Need-returns
-unfolding skip skipBy
+unfolding skip
 returns c =
     let a = c .before .before .before .before .before .args in
     rw (c .answer .ensures)
-    (refused (λ n. skipBy n (a .grid) (now (a .image)) (now (a .marks)) (a .block-row) (a .block-col)) (λ n. left (number n) (now (a .image)) (now (a .marks))) (λ n. refl)
-    (c .before .before .block-number .ensures) (c .before .if1 .taken))
+    (refused-by _ (unchanged (now (a .image)) (now (a .marks))) (c .before .before .block-number .ensures) (c .before .if1 .taken))
 
 block-index-requires : tie.Need-block-index-requires
 block-index-requires c κs = let k = enough c in (k .0 .accepted, k .1)
@@ -49,7 +50,7 @@ same-length : tie.Need-same-length
 same-length c = search needs
 
 returns-2 : tie.Need-returns-2
-unfolding skip skipBy
+unfolding skip outcome
 returns-2 c = rw (c .answer2 .ensures, c .before .before .before .set-mark .ensures, c .before .before .before .before .before .block-index .ensures, zero (c .before .before .before .before .before .before))
 
 pub skip-block-spec : {M : Type 1} → statement M

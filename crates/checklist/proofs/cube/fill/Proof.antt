@@ -1,4 +1,4 @@
--- `fill` keeps the length of its slice, and ends.
+-- `checklist::cube::fill` keeps the length of its slice, and ends.
 -- Assumes nothing.
 use Prim.Native.Nat.{_-_, _≤_}
 use mathlib.Core.Path.{_≡_}

@@ -1,4 +1,4 @@
--- `write_block` lends no more bytes than it has.
+-- `checklist::cube::write_block` lends no more bytes than it has.
 -- Assumes nothing.
 use mathlib.Core.Path.{sym}
 use native.Mathlib.Omega.{arith}

@@ -1,4 +1,4 @@
--- `same` ends.
+-- `checklist::say::same` ends.
 -- Assumes nothing.
 use Prim.Native.Nat.{_-_, _≤_}
 use native.Mathlib.Omega.{arith}

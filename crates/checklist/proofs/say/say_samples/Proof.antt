@@ -1,4 +1,4 @@
--- `say_samples` ends.
+-- `checklist::say::say_samples` ends.
 -- Assumes nothing.
 use Prim.Native.Nat.{_-_, _≤_}
 use native.Mathlib.Omega.{arith}

@@ -1,4 +1,4 @@
--- `written` reads inside its slice and ends.
+-- `checklist::say::written` reads inside its slice and ends.
 -- Assumes nothing.
 use Prim.Native.Nat.{_-_, _≤_}
 use native.Mathlib.Omega.{arith}

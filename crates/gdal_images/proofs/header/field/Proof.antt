@@ -1,4 +1,4 @@
--- `field` gives a number of at most ten digits, and ends.
+-- `gdal_images::header::field` gives a number of at most ten digits, and ends.
 -- Assumes nothing.
 use Prim.Native.Nat.{_-_, _≤_, _<_}
 use native.Mathlib.Omega.{arith}

@@ -1,3 +1,5 @@
+-- `grid::Grid::actual_columns` meets its contract.
+-- Assumes nothing.
 use Rattle.grid.specs.Sizes.{actualColumns}
 use Rattle.grid.proofs.Accepted.{facts, column-start}
 use Rattle.grid.proofs.Grid.actual_columns.Statement.{statement}

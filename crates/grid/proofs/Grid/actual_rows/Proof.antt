@@ -1,3 +1,5 @@
+-- `grid::Grid::actual_rows` meets its contract.
+-- Assumes nothing.
 use Rattle.grid.specs.Sizes.{actualRows}
 use Rattle.grid.proofs.Accepted.{facts, row-start}
 use Rattle.grid.proofs.Grid.actual_rows.Statement.{statement}

@@ -1,11 +1,9 @@
+-- `grid::Grid::block_bytes` meets its contract.
+-- Assumes nothing.
 use borrow.Author.Needs.{needs}
-use mathlib.Core.Path.{_≡_, refl, sym, ap, _∙_}
+use mathlib.Core.Path.{ap}
 use native.Mathlib.Omega.{arith}
-use Prim.Native.Nat.{ℕ, _*_, _≤_}
-use native.Mathlib.Nat.{mul-le-mul-right, mul-assoc}
-use Rattle.grid.specs.declared.Grid.{Grid}
-use Rattle.grid.specs.Sizes.{bandBytes, imageBytes}
-use Rattle.grid.specs.Check.{Accepted}
+use Prim.Native.Nat.{ℕ, _*_}
 use Rattle.grid.proofs.Accepted.{facts, block-le}
 use Rattle.grid.proofs.Grid.block_bytes.Statement.{statement}
 use Rattle.grid.proofs.Grid.block_bytes.Tie as tie

@@ -1,3 +1,5 @@
+-- `grid::Grid::block_index` meets its contract.
+-- Assumes nothing.
 use borrow.Author.Needs.{needs}
 use native.Mathlib.Omega.{arith}
 use Rattle.grid.proofs.Accepted.{facts, index-lt}

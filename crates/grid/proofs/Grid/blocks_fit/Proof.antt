@@ -1,13 +1,15 @@
+-- `grid::Grid::blocks_fit` meets its contract.
+-- Assumes nothing.
 use borrow.Author.Needs.{needs}
-use mathlib.Core.Path.{_≡_, refl, sym, ap, ap₂, _∙_}
+use mathlib.Core.Path.{_≡_, sym, _∙_}
 use borrow.Author.Tests.{eq-eqb, ne-eqb, le-leb, lt-leb}
 use Prim.Native.Nat.{_≤_}
 use lib.Dec.{leb}
 use Rattle.grid.specs.declared.Grid.{Grid}
-use Rattle.grid.specs.Widths.{ceilDiv}
-use Rattle.grid.specs.Questions.{every}
+use Rattle.common.specs.Rounding.{ceilDiv}
+use Rattle.common.specs.Tests.{every}
 use Rattle.grid.specs.Check.{q3}
-use Rattle.grid.proofs.Questions.{every-last}
+use Rattle.common.proofs.Tests.{every-last}
 use Rattle.grid.proofs.Grid.blocks_fit.Statement.{statement}
 use Rattle.grid.proofs.Grid.blocks_fit.Tie as tie
 
@@ -37,16 +39,19 @@ returns-2 c =
 returns-3 : tie.Need-returns-3
 unfolding q3 every
 returns-3 c =
+    let down = c .before .before in
+    let across = down .before .before .before in
     simp (
-      eq-eqb _ _ (c .before .before .before .before .before .if1 .left ∙ c .before .before .before .before .before .before .before .ceil-div .ensures),
-      eq-eqb _ _ (c .before .before .if2 .left ∙ c .before .before .before .before .ceil-div2 .ensures),
+      eq-eqb _ _ (across .if1 .left ∙ across .before .before .ceil-div .ensures),
+      eq-eqb _ _ (down .if2 .left ∙ down .before .before .ceil-div2 .ensures),
       lt-leb _ _ (c .if3 .taken),
     )
 
 returns-4 : tie.Need-returns-4
 returns-4 c =
-    last _ (c .before .before .before .before .before .before .if1 .left ∙ c .before .before .before .before .before .before .before .before .ceil-div .ensures)
-    (c .before .before .before .if2 .left ∙ c .before .before .before .before .before .ceil-div2 .ensures)
+    let down = c .before .before .before in
+    let across = down .before .before .before in
+    last _ (across .if1 .left ∙ across .before .before .ceil-div .ensures) (down .if2 .left ∙ down .before .before .ceil-div2 .ensures)
     (c .before .if3 .left)
 
 pub blocks-fit-spec : {M : Type 1} → statement M

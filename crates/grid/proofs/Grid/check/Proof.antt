@@ -1,10 +1,12 @@
+-- `grid::Grid::check` meets its contract.
+-- Assumes nothing.
 use borrow.Author.Needs.{needs}
 use mathlib.Core.Path.{_≡_, sym, _∙_}
 use mathlib.Core.Bool.{true}
 use Rattle.grid.specs.Widths.{widthTaken}
 use Rattle.grid.specs.Check.{gridNumber, q1, q3}
-use Rattle.grid.proofs.Questions.{no, yes}
-use Rattle.grid.proofs.Taken.{refused, taken}
+use Rattle.common.proofs.Flags.{no, yes}
+use Rattle.grid.proofs.WidthLaws.{refused, taken}
 use Rattle.grid.proofs.Grid.check.Statement.{statement}
 use Rattle.grid.proofs.Grid.check.Tie as tie
 
@@ -17,10 +19,9 @@ wide c = (
 
 -- past question 3
 counted : (c : tie.Else3)
-    → (q1 (c .before .before .before .before .before .before .args .self) ≡ true)
-    × (widthTaken (c .before .before .before .before .before .before .args .self .nbpp) ≡ true)
-    × (q3 (c .before .before .before .before .before .before .args .self) ≡ true)
-counted c = (wide (c .before .before) .0, wide (c .before .before) .1, yes (c .before .blocks-fit .ensures) (c .if3 .left))
+    → let sized = c .before .before in
+    let g = sized .before .before .before .before .args .self in (q1 g ≡ true) × (widthTaken (g .nbpp) ≡ true) × (q3 g ≡ true)
+counted c = let w = wide (c .before .before) in (w .0, w .1, yes (c .before .blocks-fit .ensures) (c .if3 .left))
 
 sides-fit-requires : tie.Need-sides-fit-requires
 sides-fit-requires c κs = search needs

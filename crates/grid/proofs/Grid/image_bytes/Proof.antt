@@ -1,8 +1,7 @@
+-- `grid::Grid::image_bytes` meets its contract.
+-- Assumes nothing.
 use borrow.Author.Needs.{needs}
-use mathlib.Core.Path.{_≡_, refl, sym, ap, _∙_}
 use native.Mathlib.Omega.{arith}
-use Prim.Native.Nat.{ℕ, _*_}
-use Rattle.grid.specs.Sizes.{bandBytes}
 use Rattle.grid.proofs.Accepted.{facts}
 use Rattle.grid.proofs.Grid.image_bytes.Statement.{statement}
 use Rattle.grid.proofs.Grid.image_bytes.Tie as tie

@@ -1,10 +1,10 @@
+-- `grid::Grid::image_fits` meets its contract.
+-- Assumes nothing.
 use borrow.Author.Needs.{needs}
-use mathlib.Core.Path.{_≡_, refl, sym, ap, ap₂, _∙_}
 use native.Mathlib.Omega.{arith}
-use Prim.Native.Nat.{ℕ, _*_}
 use Rattle.grid.specs.Sizes.{bandBytes}
 use Rattle.grid.specs.Check.{q4}
-use Rattle.grid.proofs.Arith.{leb-div}
+use Rattle.common.proofs.Arith.{leb-div}
 use Rattle.grid.proofs.Accepted.{Sized, sized, Counted, counted, blocks-top, slots-top, band-some}
 use Rattle.grid.proofs.Grid.image_fits.Statement.{statement}
 use Rattle.grid.proofs.Grid.image_fits.Tie as tie
@@ -15,8 +15,8 @@ sides c = sized (c .args .self) (c .pre .0) (c .pre .1)
 counts : (c : tie.Start) → Counted (c .args .self)
 counts c = counted (c .args .self) (c .pre .2)
 
-nominal-bytes-requires : tie.Need-nominal-bytes-requires
-nominal-bytes-requires c κs = search needs
+band-bytes-of-sides-requires : tie.Need-band-bytes-of-sides-requires
+band-bytes-of-sides-requires c κs = search needs
 
 cast-across : tie.Need-cast-across
 cast-across c = search needs
@@ -38,19 +38,19 @@ mul-result-2 c =
 div-result : tie.Need-div-result
 div-result c =
     let s = c .before .before .before .before in
-    omega (arith, c .before .before .before .nominal-bytes .ensures, band-some _ (sides s))
+    omega (arith, c .before .before .before .band-bytes-of-sides .ensures, band-some _ (sides s))
 
 returns : tie.Need-returns
 unfolding q4
 returns c =
     let s = c .before .before .before .before in
-    rw (c .before .before .before .nominal-bytes .ensures) (leb-div _ _ (bandBytes (s .args .self)) (band-some _ (sides s)))
+    rw (c .before .before .before .band-bytes-of-sides .ensures) (leb-div _ _ (bandBytes (s .args .self)) (band-some _ (sides s)))
 
 pub image-fits-spec : {M : Type 1} → statement M
 image-fits-spec =
     tie.close
     (tie.spec
-    nominal-bytes-requires
+    band-bytes-of-sides-requires
     cast-across
     cast-down
     cast-bands

@@ -1,3 +1,5 @@
+-- `grid::Grid::new` meets its contract.
+-- Assumes nothing.
 use borrow.Author.Needs.{needs}
 use Rattle.grid.proofs.Grid.new.Statement.{statement}
 use Rattle.grid.proofs.Grid.new.Tie as tie

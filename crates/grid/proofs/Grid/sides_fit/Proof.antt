@@ -1,8 +1,11 @@
+-- `grid::Grid::sides_fit` meets its contract.
+-- Assumes nothing.
 use borrow.Author.Needs.{needs}
-use mathlib.Core.Path.{_≡_, refl, sym, ap, ap₂, _∙_}
-use Rattle.grid.specs.Questions.{every}
+use mathlib.Core.Path.{_∙_}
+use Rattle.common.specs.Tests.{every}
 use Rattle.grid.specs.Check.{q1}
-use Rattle.grid.proofs.Questions.{no, yes, every-last}
+use Rattle.common.proofs.Flags.{no, yes}
+use Rattle.common.proofs.Tests.{every-last}
 use Rattle.grid.proofs.Grid.sides_fit.Statement.{statement}
 use Rattle.grid.proofs.Grid.sides_fit.Tie as tie
 
@@ -38,10 +41,13 @@ within-requires-4 c κs = search needs
 returns-4 : tie.Need-returns-4
 unfolding q1 every
 returns-4 c =
+    let third = c .before .before in
+    let second = third .before .before in
+    let first = second .before .before in
     simp (
-      yes (c .before .before .before .before .before .before .before .within .ensures) (c .before .before .before .before .before .before .if1 .left),
-      yes (c .before .before .before .before .before .within2 .ensures) (c .before .before .before .before .if2 .left),
-      yes (c .before .before .before .within3 .ensures) (c .before .before .if3 .left),
+      yes (first .before .within .ensures) (first .if1 .left),
+      yes (second .before .within2 .ensures) (second .if2 .left),
+      yes (third .before .within3 .ensures) (third .if3 .left),
       no (c .before .within4 .ensures) (c .if4 .taken),
     )
 
@@ -51,10 +57,13 @@ within-requires-5 c κs = search needs
 returns-5 : tie.Need-returns-5
 unfolding q1 every
 returns-5 c =
+    let third = c .before .before .before in
+    let second = third .before .before in
+    let first = second .before .before in
     simp (
-      yes (c .before .before .before .before .before .before .before .before .within .ensures) (c .before .before .before .before .before .before .before .if1 .left),
-      yes (c .before .before .before .before .before .before .within2 .ensures) (c .before .before .before .before .before .if2 .left),
-      yes (c .before .before .before .before .within3 .ensures) (c .before .before .before .if3 .left),
+      yes (first .before .within .ensures) (first .if1 .left),
+      yes (second .before .within2 .ensures) (second .if2 .left),
+      yes (third .before .within3 .ensures) (third .if3 .left),
       yes (c .before .before .within4 .ensures) (c .before .if4 .left),
     )
     (c .within5 .ensures ∙ every-last _)

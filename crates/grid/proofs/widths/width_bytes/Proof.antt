@@ -1,16 +1,18 @@
+-- `grid::widths::width_bytes` meets its contract.
+-- Assumes nothing.
 use borrow.Author.Needs.{needs}
-use mathlib.Core.Path.{_≡_, refl, sym, ap, ap₂, _∙_}
+use mathlib.Core.Path.{_≡_, sym}
 use native.Mathlib.Omega.{arith}
 use mathlib.Core.List.{List, [], _∷_}
 use mathlib.Core.Bool.{Bool}
 use Prim.Native.Nat.{ℕ, _<_}
 use lib.Dec.{eqb, ltb, eqb→eq, ltb→lt}
 use lib.ListN.{getD}
-use Rattle.grid.specs.Questions.{pick, within, every, some}
+use Rattle.common.specs.Tests.{pick, within, every, some}
 use Rattle.grid.specs.Widths.{widthTaken, widthBytes}
 use Rattle.grid.proofs.Table.{at}
-use Rattle.grid.proofs.Taken.{past}
-use Rattle.grid.proofs.Questions.{pick-no}
+use Rattle.grid.proofs.WidthLaws.{past}
+use Rattle.common.proofs.Tests.{pick-no}
 use Rattle.grid.proofs.widths.width_bytes.Statement.{statement}
 use Rattle.grid.proofs.widths.width_bytes.Tie as tie
 

@@ -1,4 +1,4 @@
--- `check::is_empty` meets its contract.
+-- `interleave::check::is_empty` meets its contract.
 -- Assumes nothing.
 use borrow.Author.Needs.{needs}
 use Prim.Native.Nat.{ℕ, _*_, _<_}
@@ -7,7 +7,7 @@ use native.Mathlib.Omega.{arith}
 use native.Mathlib.Decide.{ℕ-discrete}
 use lib.Dec.{eqb}
 use borrow.Author.Tests.{eq-eqb, ne-eqb}
-use Rattle.grid.proofs.Arith.{prod-le}
+use Rattle.common.proofs.Arith.{prod-le}
 use Rattle.interleave.proofs.Coordinates.{times-le}
 use Rattle.interleave.proofs.check.is_empty.Statement.{statement}
 use Rattle.interleave.proofs.check.is_empty.Tie as tie

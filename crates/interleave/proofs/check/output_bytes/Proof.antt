@@ -1,9 +1,9 @@
--- `check::output_bytes` meets its contract.
+-- `interleave::check::output_bytes` meets its contract.
 -- Assumes nothing.
 use borrow.Author.Needs.{needs}
 use Prim.Native.Nat.{_*_}
 use native.Mathlib.Omega.{arith}
-use Rattle.grid.proofs.Arith.{prod-le}
+use Rattle.common.proofs.Arith.{prod-le}
 use Rattle.interleave.proofs.Coordinates.{times-le}
 use Rattle.interleave.proofs.check.output_bytes.Statement.{statement}
 use Rattle.interleave.proofs.check.output_bytes.Tie as tie

@@ -1,22 +1,27 @@
--- `from_provided_blocks` meets its contract.
+-- `mask::ImageDataMask::from_provided_blocks` meets its contract.
 -- Assumes nothing.
 use borrow.Author.Needs.{needs}
 use mathlib.Core.Path.{_≡_, sym, _∙_}
 use native.Mathlib.Omega.{arith}
 use denote.Ref.{now}
 use lib.ListN.{length}
-use Rattle.mask.specs.Mask.{fromMarksNumber}
-use Rattle.mask.proofs.Asked.{MarksYes, marks-past}
-use Rattle.mask.proofs.Answers.{marks-refused, marks-are}
+use Rattle.common.specs.Questions.{outcome}
+use Rattle.common.proofs.Questions.{refused-by}
+use Rattle.mask.specs.Mask.{fromMarksNumber, noParse, marksWith, fromProvidedBlocks}
+use Rattle.mask.proofs.Numbers.{FromMarks, from-marks-facts}
 use Rattle.mask.proofs.ImageDataMask.from_provided_blocks.Statement.{statement}
 use Rattle.mask.proofs.ImageDataMask.from_provided_blocks.Tie as tie
 
--- past the questions
-number-none : (c : tie.Else1) → let s = c .before .before .before .before .args in fromMarksNumber (s .grid) (length (now (s .marks))) (length (now (s .out))) ≡ 0
-number-none c = sym (c .before .marks-number .ensures) ∙ c .if1 .left
+-- the call is accepted, and what that tells
+zero : (c : tie.Else1)
+    → let a = c .before .before .before .before .args in
+    fromMarksNumber (a .grid) (length (now (a .marks))) (length (now (a .out))) ≡ 0
+zero c = sym (c .before .marks-number .ensures) ∙ c .if1 .left
 
-past : (c : tie.Else1) → let s = c .before .before .before .before .args in MarksYes (s .grid) (length (now (s .marks))) (length (now (s .out)))
-past c = marks-past _ _ _ (number-none c)
+facts : (c : tie.Else1)
+    → let a = c .before .before .before .before .args in
+    FromMarks (a .grid) (length (now (a .marks))) (length (now (a .out)))
+facts c = from-marks-facts _ _ _ (zero c)
 
 marks-number-requires : tie.Need-marks-number-requires
 marks-number-requires c κs = search needs
@@ -25,27 +30,25 @@ none-requires : tie.Need-none-requires
 none-requires c κs = search needs
 
 returns : tie.Need-returns
+unfolding fromProvidedBlocks
 returns c =
-    let s = c .before .before .before .before .before .args in
-    marks-refused (s .grid) (now (s .marks)) (now (s .out)) (c .before .before .marks-number .ensures) (c .before .if1 .taken) (c .none .ensures)
+    rw (c .none .ensures)
+    (refused-by _ (λ n. marksWith (noParse n) _) (c .before .before .marks-number .ensures) (c .before .if1 .taken))
 
 fill-records-requires : tie.Need-fill-records-requires
-fill-records-requires c κs =
-    let a = past (c .before) in
-    (a .grid, (omega (arith, a .words), a .room))
+fill-records-requires c κs = let a = facts (c .before) in (a .accepted, (omega (arith, a .words), a .room))
 
 record-count-requires : tie.Need-record-count-requires
-record-count-requires c κs = past (c .before .before .before .before) .grid
+record-count-requires c κs = facts (c .before .before .before .before) .accepted
 
 same-length : tie.Need-same-length
 same-length c = search needs
 
 returns-2 : tie.Need-returns-2
+unfolding fromProvidedBlocks outcome
 returns-2 c =
-    let filled = c .before .before .before in
-    let past = filled .before .before in
-    let s = past .before .before .before .before .args in
-    marks-are (s .grid) (now (s .marks)) (now (s .out)) (number-none past) (c .record-count .ensures) (filled .fill-records .ensures)
+    let f = c .before .before .before in
+    rw (f .fill-records .ensures, c .record-count .ensures, zero (f .before .before))
 
 pub from-provided-blocks-spec : {M : Type 1} → statement M
 from-provided-blocks-spec =

@@ -1,41 +1,47 @@
--- `has_block` meets its contract.
+-- `mask::ImageDataMask::has_block` meets its contract.
 -- Assumes nothing.
 use borrow.Author.Needs.{needs}
 use mathlib.Core.Path.{_≡_, sym, _∙_}
 use native.Mathlib.Omega.{arith}
 use denote.Ref.{now}
-use Rattle.bits.specs.Bits.{beAt}
-use Rattle.mask.specs.Mask.{lookupNumber}
-use Rattle.mask.proofs.Asked.{lookup-past}
-use Rattle.mask.proofs.Looked.{has-refused, has-all, has-by}
+use borrow.Author.Tests.{eq-eqb, ne-eqb}
+use Rattle.common.specs.Questions.{outcome}
+use Rattle.common.specs.Tests.{pick}
+use Rattle.common.proofs.Questions.{refused-by}
+use Rattle.mask.specs.Mask.{lookupNumber, isPresent, notPresent, hasBlock}
+use Rattle.mask.proofs.Numbers.{lookup-facts}
 use Rattle.mask.proofs.ImageDataMask.has_block.Statement.{statement}
 use Rattle.mask.proofs.ImageDataMask.has_block.Tie as tie
 
--- past the questions
-taken : (c : tie.Else1) → let s = c .before .before .before .args in lookupNumber (s .grid) (now (s .table)) (s .block-row) (s .block-col) (s .band) ≡ 0
-taken c = sym (c .before .lookup-number .ensures) ∙ c .if1 .left
-
--- there are block records
-some : (c : tie.Else2) → beAt (now (c .before .before .before .before .before .args .table)) 4 2 ≡ 0 → ⊥
-some c e = c .if2 .left (c .before .get-be .ensures ∙ e)
+-- the call is accepted
+zero : (c : tie.Else1)
+    → let a = c .before .before .before .args in
+    lookupNumber (a .grid) (now (a .table)) (a .block-row) (a .block-col) (a .band) ≡ 0
+zero c = sym (c .before .lookup-number .ensures) ∙ c .if1 .left
 
 lookup-number-requires : tie.Need-lookup-number-requires
 lookup-number-requires c κs = search needs
 
 returns : tie.Need-returns
-returns c = has-refused _ _ _ _ _ (c .before .lookup-number .ensures) (c .if1 .taken)
+unfolding hasBlock
+returns c = refused-by _ notPresent (c .before .lookup-number .ensures) (c .if1 .taken)
 
-get-be-requires : tie.Need-get-be-requires
-get-be-requires c κs = omega (arith, lookup-past _ _ _ _ _ (taken c) .whole-table .ten)
+read-two-requires : tie.Need-read-two-requires
+read-two-requires c κs = omega (arith, lookup-facts _ _ _ _ _ (zero c) .parsed .ten)
 
 returns-2 : tie.Need-returns-2
-returns-2 c = has-all _ _ _ _ _ (taken (c .before .before)) (sym (c .before .get-be .ensures) ∙ c .if2 .taken)
+unfolding hasBlock outcome isPresent pick
+returns-2 c = rw (zero (c .before .before), eq-eqb _ 0 (sym (c .before .read-two .ensures) ∙ c .if2 .taken))
 
 record-of-requires : tie.Need-record-of-requires
-record-of-requires c κs = (taken (c .before .before), some c)
+record-of-requires c κs = search needs
 
 returns-3 : tie.Need-returns-3
-returns-3 c = has-by _ _ _ _ _ (taken (c .before .before .before)) (some (c .before)) (c .record-of .ensures)
+unfolding hasBlock outcome isPresent pick
+returns-3 c =
+    let l = c .before in
+    let has-records = ne-eqb _ 0 (rw (l .before .read-two .ensures) at (l .if2 .left)) in
+    rw (zero (l .before .before), has-records, c .record-of .ensures)
 
 pub has-block-spec : {M : Type 1} → statement M
 has-block-spec =
@@ -43,7 +49,7 @@ has-block-spec =
     (tie.spec
     lookup-number-requires
     returns
-    get-be-requires
+    read-two-requires
     returns-2
     record-of-requires
     returns-3)

@@ -1,71 +1,66 @@
--- `marks_number` meets its contract.
+-- `mask::ImageDataMask::marks_number` meets its contract: each "no" gives its number.
 -- Assumes nothing.
 use borrow.Author.Needs.{needs}
-use mathlib.Core.Path.{_≡_, sym, ap, _∙_}
-use Prim.Native.Nat.{ℕ, _≤_, _<_}
+use mathlib.Core.Path.{_≡_, sym, _∙_}
 use native.Mathlib.Omega.{arith}
 use borrow.Author.Tests.{le-leb, lt-leb}
-use Rattle.grid.specs.declared.Grid.{Grid}
+use Rattle.common.proofs.Flags.{no, yes}
+use Rattle.grid.specs.Check.{gridNumber, Accepted}
 use Rattle.grid.specs.Sizes.{blocks}
-use Rattle.grid.specs.Check.{Accepted}
-use Rattle.grid.proofs.Accepted.{grid-yes, facts}
-use Rattle.grid.proofs.Questions.{ask-yes, ask-no}
-use Rattle.marks.specs.Marks.{markWords}
-use Rattle.mask.specs.Table.{records}
+use Rattle.grid.proofs.Accepted.{facts, grid-yes, grid-before}
+use Rattle.marks.specs.Marks.{q12}
 use Rattle.mask.specs.Mask.{fromMarksNumber}
-use Rattle.mask.proofs.Asked.{accepted, refused}
 use Rattle.mask.proofs.ImageDataMask.marks_number.Statement.{statement}
 use Rattle.mask.proofs.ImageDataMask.marks_number.Tie as tie
 
-few-words : (g : Grid) (n m : ℕ) → Accepted g → n < markWords (blocks g) → 12 ≡ fromMarksNumber g n m
-unfolding fromMarksNumber
-few-words g n m a h = sym (grid-yes g _ a ∙ ask-no 12 _ (lt-leb _ _ h))
+-- past question 4
+accepted : (c : tie.Else1) → Accepted (c .before .before .args .grid)
+accepted c = sym (c .before .check .ensures) ∙ c .if1 .left
 
-little-room : (g : Grid) (n m : ℕ) → Accepted g → markWords (blocks g) ≤ n → m < records g → 9 ≡ fromMarksNumber g n m
-unfolding fromMarksNumber
-little-room g n m a h l = sym (grid-yes g _ a ∙ ask-yes 12 _ (le-leb _ _ h) ∙ ask-no 9 _ (lt-leb _ _ l))
-
-taken : (g : Grid) (n m : ℕ) → Accepted g → markWords (blocks g) ≤ n → records g ≤ m → 0 ≡ fromMarksNumber g n m
-unfolding fromMarksNumber
-taken g n m a h l = sym (grid-yes g _ a ∙ ask-yes 12 _ (le-leb _ _ h) ∙ ask-yes 9 _ (le-leb _ _ l))
-
--- past questions 1 to 4
-grid-taken : (c : tie.Else1) → Accepted (c .before .before .args .grid)
-grid-taken c = accepted _ (c .before .check .ensures) (c .if1 .left)
-
-words-wanted : (c : tie.After-mark-words) → c .mark-words .result ≡ markWords (blocks (c .before .before .before .before .args .grid))
-words-wanted c = c .mark-words .ensures ∙ ap markWords (c .before .blocks2 .ensures)
+-- question 12, as the code asks it
+words-are : (c : tie.After-has-words)
+    → let a = c .before .before .before .before .args in c .has-words .result ≡ q12 (blocks (a .grid)) (a .words)
+words-are c = rw (c .before .blocks2 .ensures) at (c .has-words .ensures)
 
 check-requires : tie.Need-check-requires
 check-requires c κs = search needs
 
 returns : tie.Need-returns
-unfolding fromMarksNumber
-returns c = refused _ _ (c .before .check .ensures) (c .if1 .taken)
+unfolding gridNumber fromMarksNumber
+returns c = grid-before _ .refuses (c .before .check .ensures) (c .if1 .taken) _
 
 blocks-requires : tie.Need-blocks-requires
-blocks-requires c κs = grid-taken c
+blocks-requires c κs = search needs
 
-mark-words-requires : tie.Need-mark-words-requires
-mark-words-requires c κs = rw (c .blocks2 .ensures) (omega (arith, facts _ (grid-taken (c .before)) .blocks-le))
+has-words-requires : tie.Need-has-words-requires
+has-words-requires c κs = rw (c .blocks2 .ensures) (omega (arith, facts _ (accepted (c .before)) .blocks-le))
 
 returns-2 : tie.Need-returns-2
-returns-2 c = few-words _ _ _ (grid-taken (c .before .before .before)) (rw (words-wanted (c .before)) at (c .if2 .taken))
+unfolding fromMarksNumber
+returns-2 c = rw (grid-yes _ _ (accepted (c .before .before .before)), no (words-are (c .before)) (c .if2 .taken))
 
 record-count-requires : tie.Need-record-count-requires
-record-count-requires c κs = grid-taken (c .before .before .before)
+record-count-requires c κs = search needs
 
 returns-3 : tie.Need-returns-3
+unfolding fromMarksNumber
 returns-3 c =
-    let words = c .before .before in
-    little-room _ _ _ (grid-taken (words .before .before .before)) (rw (words-wanted (words .before)) at (words .if2 .left))
-    (rw (c .before .record-count .ensures) at (c .if3 .taken))
+    let w = c .before .before in
+    rw (
+      grid-yes _ _ (accepted (w .before .before .before)),
+      yes (words-are (w .before)) (w .if2 .left),
+      lt-leb _ _ (rw (c .before .record-count .ensures) at (c .if3 .taken)),
+    )
 
 returns-4 : tie.Need-returns-4
+unfolding fromMarksNumber
 returns-4 c =
-    let words = c .before .before in
-    taken _ _ _ (grid-taken (words .before .before .before)) (rw (words-wanted (words .before)) at (words .if2 .left))
-    (rw (c .before .record-count .ensures) at (c .if3 .left))
+    let w = c .before .before in
+    rw (
+      grid-yes _ _ (accepted (w .before .before .before)),
+      yes (words-are (w .before)) (w .if2 .left),
+      le-leb _ _ (rw (c .before .record-count .ensures) at (c .if3 .left)),
+    )
 
 pub marks-number-spec : {M : Type 1} → statement M
 marks-number-spec =
@@ -74,7 +69,7 @@ marks-number-spec =
     check-requires
     returns
     blocks-requires
-    mark-words-requires
+    has-words-requires
     returns-2
     record-count-requires
     returns-3

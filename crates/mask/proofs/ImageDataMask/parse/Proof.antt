@@ -1,103 +1,95 @@
--- `parse` meets its contract.
+-- `mask::ImageDataMask::parse` meets its contract.
 -- Assumes nothing.
 use borrow.Author.Needs.{needs}
 use mathlib.Core.Path.{_≡_, sym, _∙_}
 use mathlib.Core.List.{List}
-use mathlib.Core.Logic.{⊎-elim}
-use Prim.Native.Nat.{ℕ, _+_, _/_, _≤_}
+use Prim.Native.Nat.{ℕ, _+_, _≤_}
 use native.Mathlib.Omega.{arith}
 use denote.Ref.{now}
 use lib.ListN.{length}
+use Rattle.common.specs.Questions.{outcome}
+use Rattle.common.proofs.Questions.{refused-by}
+use Rattle.bits.specs.Bits.{Bytes}
 use Rattle.grid.specs.declared.Grid.{Grid}
-use Rattle.grid.specs.Check.{gridNumber, Accepted}
-use Rattle.grid.proofs.Accepted.{grid-yes}
-use Rattle.mask.specs.Mask.{askTable, parseNumber}
-use Rattle.mask.proofs.Fields.{code-lt, head-code, head-size, head-whole}
-use Rattle.mask.proofs.Asked.{TableYes, accepted, refused, parse-past, code-inside}
-use Rattle.mask.proofs.Answers.{parse-refused, parse-is}
+use Rattle.mask.specs.declared.ImageDataMask.{ImageDataMask}
+use Rattle.mask.specs.Table.{maskSize, header}
+use Rattle.mask.specs.Mask.{parseNumber, noParse, parse}
+use Rattle.mask.proofs.Fields.{code-lt}
+use Rattle.mask.proofs.Numbers.{Parse, parse-facts, code-inside}
 use Rattle.mask.proofs.ImageDataMask.parse.Statement.{statement}
 use Rattle.mask.proofs.ImageDataMask.parse.Tie as tie
 
--- the number in either case
-of-grid : (g : Grid) (table : List ℕ) {n : ℕ} → n ≡ gridNumber g → (n ≡ 0 → ⊥) → n ≡ parseNumber g table
-unfolding parseNumber
-of-grid g table e nz = refused g _ e nz
+-- the call is accepted, and what that tells
+zero : (c : tie.Else1) → let a = c .before .before .before .args in parseNumber (a .grid) (now (a .table)) ≡ 0
+zero c = sym (c .before .parse-number .ensures) ∙ c .if1 .left
 
-of-table : (g : Grid) (table : List ℕ) {n : ℕ} → Accepted g → n ≡ askTable g table 0 → n ≡ parseNumber g table
-unfolding parseNumber
-of-table g table a e = e ∙ sym (grid-yes g _ a)
+facts : (c : tie.Else1) → let a = c .before .before .before .args in Parse (a .grid) (now (a .table))
+facts c = parse-facts _ _ (zero c)
 
-number-is : (c : tie.Joined1) → let s = c .before .before .before .args in c .if1 .number ≡ parseNumber (s .grid) (now (s .table))
-number-is c =
-    let checked = c .before in
-    ⊎-elim (λ w. w .2 ∙ of-table _ _ (accepted _ (checked .check .ensures) (w .0 .taken)) (w .1 .ensures))
-    (λ w. w .1 ∙ of-grid _ _ (checked .check .ensures) (w .0 .left)) (c .if1 .came)
-
--- past the questions
-number-none : (c : tie.Else2) → let s = c .before .before .before .before .args in parseNumber (s .grid) (now (s .table)) ≡ 0
-number-none c = sym (number-is (c .before)) ∙ c .if2 .left
-
-past : (c : tie.Else2) → let s = c .before .before .before .before .args in Accepted (s .grid) × TableYes (s .grid) (now (s .table))
-past c = parse-past _ _ (number-none c)
+-- what was read is the answer
+done : (g : Grid) (table : List ℕ) {mask : ImageDataMask} {used : ℕ} → parseNumber g table ≡ 0 → mask ≡ header table
+    → used ≡ maskSize g (header table) → record { number = 0; mask = mask; used = used } ≡ parse g table
+unfolding parse outcome
+done g table z m u = rw (z, m, u)
 
 -- the code's bytes
-code-in : (c : tie.After-struct-known)
-    → let n = (c .before .before .lengths .result .«pad_pixel_code_length» + 7) / 8 in
-    (n ≤ 4) × (10 + n ≤ length (now (c .before .before .before .before .before .before .before .args .table)))
+code-in : (c : tie.After-code-bytes)
+    → let h = c .before .before .before in
+    let n = c .code-bytes .result in
+    (n ≤ 4) × (10 + n ≤ length (now (h .before .before .before .args .table)))
 code-in c =
-    let head = c .before .before in
-    rw (head-code _ (head .lengths .ensures)) (code-inside _ _ (past (head .before) .1))
+    let l = c .before .before in
+    rw (c .code-bytes .ensures, l .lengths .ensures) (code-inside _ _ (facts (l .before)))
 
-check-requires : tie.Need-check-requires
-check-requires c κs = search needs
-
-table-number-requires : tie.Need-table-number-requires
-table-number-requires c κs = accepted _ (c .before .check .ensures) (c .if1 .taken)
+parse-number-requires : tie.Need-parse-number-requires
+parse-number-requires c κs = search needs
 
 none-requires : tie.Need-none-requires
 none-requires c κs = search needs
 
 returns : tie.Need-returns
-returns c = parse-refused _ _ (number-is (c .before .before)) (c .before .if2 .taken) (c .none .ensures)
+unfolding parse
+returns c =
+    rw (c .none .ensures)
+    (refused-by _ noParse (c .before .before .parse-number .ensures) (c .before .if1 .taken))
 
 lengths-requires : tie.Need-lengths-requires
-lengths-requires c κs = past c .1 .ten
+lengths-requires c κs = facts c .ten
 
 table-bytes-requires : tie.Need-table-bytes-requires
-table-bytes-requires c κs = past (c .before) .0
+table-bytes-requires c κs = facts (c .before) .accepted
 
-cast-size : tie.Need-cast-size
-cast-size c = search needs
-
-add-size : tie.Need-add-size
-add-size c = search needs
+code-bytes-requires : tie.Need-code-bytes-requires
+code-bytes-requires c κs = search needs
 
 get-be-requires : tie.Need-get-be-requires
 get-be-requires c κs = omega (arith, code-in c)
 
 cast-mask : tie.Need-cast-mask
 cast-mask c =
-    let known = c .before .before .before .before .before .before .before in
-    record { fits = code-lt (now (known .before .args .table)) _ (λ i. known .shared-slice-known .given i .fits) (code-in (c .before) .0) (c .get-be .ensures) }
+    let h = c .before .before .before .before in
+    let known = h .before .before in
+    let table = now (known .before .args .table) in
+    let bytes : Bytes table = λ i. known .shared-slice-known .given i .fits in
+    record { fits = code-lt table _ bytes (code-in (c .before) .0) (c .get-be .ensures) }
 
 returns-2 : tie.Need-returns-2
 returns-2 c =
-    let sized = c .before .before in
-    let head = sized .before in
-    parse-is _ _ (number-none (head .before)) (head-whole _ (head .lengths .ensures) (c .get-be .ensures)) (sized .table-bytes .ensures ∙ head-size _ (head .lengths .ensures) _)
+    let size = c .before .before in
+    let l = size .before in
+    done _ _ (zero (l .before)) (rw (c .get-be .ensures, c .before .code-bytes .ensures, l .lengths .ensures))
+    (rw (l .lengths .ensures) at (size .table-bytes .ensures))
 
 pub parse-spec : {M : Type 1} → statement M
 parse-spec =
     tie.close
     (tie.spec
-    check-requires
-    table-number-requires
+    parse-number-requires
     none-requires
     returns
     lengths-requires
     table-bytes-requires
-    cast-size
-    add-size
+    code-bytes-requires
     get-be-requires
     cast-mask
     returns-2)

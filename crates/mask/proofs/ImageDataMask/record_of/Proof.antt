@@ -1,99 +1,88 @@
--- `record_of` meets its contract.
+-- `mask::ImageDataMask::record_of` meets its contract.
 -- Assumes nothing.
 use borrow.Author.Needs.{needs}
 use mathlib.Core.Path.{_≡_, ap, _∙_}
+use mathlib.Core.List.{List}
 use mathlib.Core.Logic.{⊎-elim}
-use Prim.Native.Nat.{ℕ, _+_, _*_, _/_, _≤_}
+use Prim.Native.Nat.{ℕ, _+_, _*_, _≤_, _<_}
 use native.Mathlib.Omega.{arith}
 use denote.Ref.{now}
 use lib.ListN.{length}
 use Rattle.bits.specs.Bits.{beAt}
-use Rattle.grid.proofs.Accepted.{facts, index-lt}
-use Rattle.mask.specs.Table.{codeBytes, blockRecord}
-use Rattle.mask.proofs.Records.{one-each}
-use Rattle.mask.proofs.Fields.{read-lt}
-use Rattle.mask.proofs.Asked.{LookupYes, lookup-past}
-use Rattle.mask.proofs.Looked.{lookedAt, record-inside}
+use Rattle.grid.specs.declared.Grid.{Grid}
+use Rattle.mask.specs.Table.{records, lookupRecord, codeBytes, tableSize, header, blockRecord}
+use Rattle.mask.proofs.Records.{lookup-lt}
+use Rattle.mask.proofs.Numbers.{Lookup, lookup-facts, block-length}
 use Rattle.mask.proofs.ImageDataMask.record_of.Statement.{statement}
 use Rattle.mask.proofs.ImageDataMask.record_of.Tie as tie
 
--- the questions' answers
-asked : (c : tie.Start) → let s = c .args in LookupYes (s .grid) (now (s .table)) (s .block-row) (s .block-col) (s .band)
-asked c = lookup-past _ _ _ _ _ (c .pre .0)
+-- the accepted lookup
+facts : (c : tie.Start) → let a = c .args in Lookup (a .grid) (now (a .table)) (a .block-row) (a .block-col) (a .band)
+facts c = lookup-facts _ _ _ _ _ (c .pre .0)
 
--- in either arm
-record-is : (c : tie.At-match-came) → let s = c .before .before .before .args in c .match .«record» ≡ lookedAt (s .grid) (s .block-row) (s .block-col) (s .band)
-record-is c =
-    let index = c .before in
-    let g = index .before .before .args .grid in
-    ⊎-elim (λ w. rw (w .1 .given .1) (omega (arith, index .block-index .ensures))) (λ w. w .1 ∙ index .block-index .ensures ∙ one-each (g .imode) (w .0 .keys2) .looked _ _) (c .match .came)
+-- a record that the table has lies inside it
+record-inside : (g : Grid) (table : List ℕ) (row column band : ℕ) → Lookup g table row column band
+    → (beAt table 4 2 ≡ 0 → ⊥)
+    → 10 + codeBytes (beAt table 8 2) + lookupRecord g row column band * 4 + 4 ≤ length table
+unfolding tableSize
+record-inside g table row column band l ne =
+    let k : lookupRecord g row column band < records g = lookup-lt g row column band (l .block) (l .in-band) in
+    let four : beAt table 4 2 ≡ 4 =
+    ⊎-elim (λ z. absurd (ne z)) (λ f. f) (block-length (header table) (l .parsed .record-lengths)) in
+    let whole : 10 + codeBytes (beAt table 8 2) + records g * (4 + beAt table 6 2) ≤ length table =
+    rw four at (l .parsed .whole) in
+    omega arith
 
 -- the place read, and that it lies inside
-place-is : (c : tie.After-row-known)
-    → let s = c .before .before .before .before .before .args in
-    10 + (c .before .get-be .result + 7) / 8 + c .before .before .match .«record» * 4 ≡ 10 + codeBytes (beAt (now (s .table)) 8 2) + lookedAt (s .grid) (s .block-row) (s .block-col) (s .band) * 4
-place-is c = rw (c .before .get-be .ensures, record-is (c .before .before))
+place-is : (c : tie.After-code-bytes)
+    → let a = c .before .before .before .before .args in
+    10 + c .code-bytes .result + c .before .before .lookup-record .result * 4
+    ≡ 10 + codeBytes (beAt (now (a .table)) 8 2) + lookupRecord (a .grid) (a .block-row) (a .block-col) (a .band) * 4
+place-is c = rw (c .code-bytes .ensures, c .before .read-two .ensures, c .before .before .lookup-record .ensures)
 
-inside : (c : tie.After-row-known)
-    → 10 + (c .before .get-be .result + 7) / 8 + c .before .before .match .«record» * 4 + 4 ≤ length (now (c .before .before .before .before .before .args .table))
+inside : (c : tie.After-code-bytes)
+    → let a = c .before .before .before .before .args in
+    10 + c .code-bytes .result + c .before .before .lookup-record .result * 4 + 4 ≤ length (now (a .table))
 inside c =
-    let s = c .before .before .before .before .before in
-    rw (place-is c) (record-inside _ _ _ _ _ (asked s) (s .pre .1))
+    let s = c .before .before .before .before in
+    rw (place-is c) (record-inside _ _ _ _ _ (facts s) (s .pre .1))
 
-block-index-requires : tie.Need-block-index-requires
-block-index-requires c κs = (asked (c .before) .grid, asked (c .before) .block)
+lookup-record-requires : tie.Need-lookup-record-requires
+lookup-record-requires c κs = let l = facts (c .before) in (l .parsed .accepted, l .block)
 
-enum-told : tie.Need-enum-told
-enum-told c = search needs
+read-two-requires : tie.Need-read-two-requires
+read-two-requires c κs = omega (arith, facts (c .before .before) .parsed .ten)
 
-add-record : tie.Need-add-record
-add-record c =
-    let index = c .before .before in
-    let s = index .before .before in
-    rw (index .block-index .ensures)
-    (omega (arith, index-lt (s .args .grid) (s .args .block-row) (s .args .block-col) (asked s .block), facts _ (asked s .grid) .blocks-le))
+code-bytes-requires : tie.Need-code-bytes-requires
+code-bytes-requires c κs = search needs
 
-get-be-requires : tie.Need-get-be-requires
-get-be-requires c κs = omega (arith, asked (c .before .before .before) .whole-table .ten)
+add-read-four : tie.Need-add-read-four
+add-read-four c = search needs
 
-add-code : tie.Need-add-code
-add-code c =
-    let known = c .before .before .before in
-    omega (arith, read-lt (now (known .before .args .table)) 8 2 (λ i. known .shared-slice-known .given i .fits) (c .get-be .ensures))
+mul-read-four : tie.Need-mul-read-four
+mul-read-four c = omega (arith, inside c)
 
-add-get-be : tie.Need-add-get-be
-add-get-be c = search needs
+add-read-four-2 : tie.Need-add-read-four-2
+add-read-four-2 c = omega (arith, inside c)
 
-mul-get-be : tie.Need-mul-get-be
-mul-get-be c = omega (arith, inside c)
-
-add-get-be-2 : tie.Need-add-get-be-2
-add-get-be-2 c = omega (arith, inside c)
-
-get-be-requires-2 : tie.Need-get-be-requires-2
-get-be-requires-2 c κs = omega (arith, inside c)
-
-cast-result : tie.Need-cast-result
-cast-result c =
-    let known = c .before .before .before .before .before in
-    record { fits = read-lt (now (known .before .args .table)) _ 4 (λ i. known .shared-slice-known .given i .fits) (c .get-be2 .ensures) }
+read-four-requires : tie.Need-read-four-requires
+read-four-requires c κs = omega (arith, inside c)
 
 returns : tie.Need-returns
 unfolding blockRecord
-returns c = c .get-be2 .ensures ∙ ap (λ (i : ℕ). beAt (now (c .before .before .before .before .before .before .args .table)) i 4) (place-is (c .before))
+returns c =
+    let table = now (c .before .before .before .before .before .args .table) in
+    c .read-four .ensures ∙ ap (λ (i : ℕ). beAt table i 4) (place-is (c .before))
 
 pub record-of-spec : {M : Type 1} → statement M
 record-of-spec =
     tie.close
     (tie.spec
-    block-index-requires
-    enum-told
-    add-record
-    get-be-requires
-    add-code
-    add-get-be
-    mul-get-be
-    add-get-be-2
-    get-be-requires-2
-    cast-result
+    lookup-record-requires
+    read-two-requires
+    code-bytes-requires
+    add-read-four
+    mul-read-four
+    add-read-four-2
+    read-four-requires
     returns)

@@ -1,90 +1,82 @@
--- `fill_records` meets its contract: the first k words are filled.
+-- `mask::fill::fill_records` meets its contract: the first k words are filled.
 -- Assumes nothing.
-use borrow.Author.Needs.{needs}
-use mathlib.Core.Path.{_≡_, refl, ap, _∙_}
+use mathlib.Core.Path.{_≡_, refl, sym, _∙_}
 use mathlib.Core.Logic.{⊎-elim}
-use mathlib.Core.List.{List}
-use Prim.Native.Nat.{ℕ, _+_, _-_, _/_, _≤_, _<_}
+use Prim.Native.Nat.{_-_, _≤_, _<_}
 use native.Mathlib.Omega.{arith}
 use denote.Ref.{now}
-use lib.ListN.{length, set, length-set}
-use Rattle.bits.specs.Over.{over}
-use Rattle.grid.specs.Sizes.{blocks}
-use Rattle.grid.proofs.Accepted.{facts}
+use lib.ListN.{length}
+use Rattle.common.specs.Lists.{tabulate}
+use Rattle.common.specs.Over.{over}
+use Rattle.common.proofs.Tests.{pick-yes, pick-no}
 use Rattle.mask.specs.Table.{records}
-use Rattle.mask.proofs.Records.{each-pos, filled-lt}
-use Rattle.mask.proofs.Fields.{records-le}
-use Rattle.mask.proofs.Listed.{listed, listed-none, listed-turn}
-use Rattle.mask.proofs.Marks.{wordOf, word-marked, word-unmarked, records-filled}
+use Rattle.mask.specs.Mask.{markRecord}
+use Rattle.mask.proofs.Tabulate.{tabulate-none, tabulate-turn}
+use Rattle.mask.proofs.Records.{records-le, filled-lt}
 use Rattle.mask.proofs.fill.fill_records.Statement.{statement}
 use Rattle.mask.proofs.fill.fill_records.Tie as tie
 
 abbrev Inv-loop : tie.InvT-loop
-Inv-loop marks out₀ each k₀ k-end out k = (k ≤ k-end) × (out ≡ over out₀ 0 (listed (λ i. wordOf marks (i / each)) k)) × (length out ≡ length out₀)
+Inv-loop marks grid out₀ k₀ k-end out k =
+    (k ≤ k-end) × (out ≡ over out₀ 0 (tabulate k (markRecord grid marks))) × (length out ≡ length out₀)
 
 abbrev μ-loop : tie.MeasureT-loop
-μ-loop marks out₀ each k₀ k-end out k = k-end - k
+μ-loop marks grid out₀ k₀ k-end out k = k-end - k
 
--- a turn: one more word
-turn : (marks d : List ℕ) (each k : ℕ) {ys : List ℕ} → k < length d → ys ≡ over d 0 (listed (λ i. wordOf marks (i / each)) k) → length ys ≡ length d
-    → (x : ℕ) (zs : List ℕ) → x ≡ wordOf marks (k / each) → zs ≡ set ys k x → (zs ≡ over d 0 (listed (λ i. wordOf marks (i / each)) (k + 1))) × (length zs ≡ length d)
-turn marks d each k h ey el x zs ex ez = (listed-turn (λ i. wordOf marks (i / each)) d k h ey ex ez, ap length ez ∙ simp length-set el)
+-- where the function starts
+abbrev start : tie.At-loop Inv-loop μ-loop → tie.Start Inv-loop μ-loop
+start c = c .before .before .before .before
 
--- in a turn: the record is one of the table's, and its block one of the grid's
-inside : (c : tie.In-loop Inv-loop μ-loop)
-    → let s = c .before .before .before .before .before .before .args in
-    (c .before .loop .k < records (s .grid)) × (records (s .grid) ≤ 9_997_900_119_999) × (c .before .loop .k / c .before .before .before .block-records .result < blocks (s .grid))
-inside c =
-    let counted = c .before .before in
-    let s = counted .before .before .before .before in
-    let k< : c .before .loop .k < records (s .args .grid) = rw (counted .record-count .ensures) at (c .loop-test .taken) in
-    (k<, records-le _ (s .pre .0), rw (counted .before .block-records .ensures) (filled-lt (s .args .grid .imode) (s .args .grid) _ (facts _ (s .pre .0)) k<))
-
-block-records-requires : tie.Need-block-records-requires Inv-loop μ-loop
-block-records-requires c κs = search needs
+-- in a turn: the record is one of the table's
+in-table : (c : tie.In-loop Inv-loop μ-loop)
+    → let g = start (c .before) .args .grid in
+    (c .before .loop .k < records g) × (records g ≤ 9_997_900_119_999)
+in-table c =
+    (rw (c .before .before .record-count .ensures) at (c .loop-test .taken), records-le _ (start (c .before) .pre .0))
 
 record-count-requires : tie.Need-record-count-requires Inv-loop μ-loop
-record-count-requires c κs = c .before .before .before .pre .0
+record-count-requires c κs = c .before .before .pre .0
 
 loop-holds : tie.Need-loop-holds Inv-loop μ-loop
-loop-holds c = (omega arith, listed-none _ _, refl)
+loop-holds c = (omega arith, tabulate-none _ _, refl)
 
-div-is-marked : tie.Need-div-is-marked Inv-loop μ-loop
-div-is-marked c =
-    let sized = c .before .before .before in
-    let s = sized .before .before .before in
-    rw (sized .block-records .ensures) (each-pos (s .args .grid .imode) (s .args .grid) (facts _ (s .pre .0)))
+filled-block-requires : tie.Need-filled-block-requires Inv-loop μ-loop
+filled-block-requires c κs = start (c .before) .pre .0
 
 is-marked-requires : tie.Need-is-marked-requires Inv-loop μ-loop
-is-marked-requires c κs = omega (arith, inside c)
+is-marked-requires c κs =
+    let s = start (c .before .before) in
+    rw (c .filled-block .ensures) (omega (arith, filled-lt _ _ (s .pre .0) (in-table (c .before) .0)))
 
 mul-out : tie.Need-mul-out Inv-loop μ-loop
-mul-out c = omega (arith, inside (c .before .before))
+mul-out c = omega (arith, in-table (c .before .before .before))
 
 slice-write-out : tie.Need-slice-write-out Inv-loop μ-loop
-slice-write-out c = omega (arith, inside (c .before .before))
+slice-write-out c = omega (arith, in-table (c .before .before .before))
 
 mul-out-2 : tie.Need-mul-out-2 Inv-loop μ-loop
-mul-out-2 c = omega (arith, inside (c .before .before))
+mul-out-2 c = omega (arith, in-table (c .before .before .before))
 
 slice-write-out-2 : tie.Need-slice-write-out-2 Inv-loop μ-loop
-slice-write-out-2 c = omega (arith, inside (c .before .before))
+slice-write-out-2 c = omega (arith, in-table (c .before .before .before))
 
 add-k : tie.Need-add-k Inv-loop μ-loop
-add-k c = omega (arith, inside (c .before .before))
+add-k c = omega (arith, in-table (c .before .before .before))
 
 loop-less : tie.Need-loop-less Inv-loop μ-loop
 loop-less c = omega arith
 
 loop-again : tie.Need-loop-again Inv-loop μ-loop
 loop-again c =
-    let head = c .before .before .before in
-    let sized = head .before .before in
-    let a = sized .before .before .before .args in
-    let next = turn (now (a .marks)) (now (a .out)) (sized .block-records .result) (head .loop .k) (omega (arith, inside (c .before .before))) (head .loop .inv .1) (head .loop .inv .2) in
+    let i = c .before .before .before in
+    let a = start (i .before) .args in
+    let l = i .before .loop in
+    let e = rw (c .before .before .filled-block .ensures) at (c .before .is-marked .ensures) in
+    let f = markRecord (a .grid) (now (a .marks)) in
+    let next = tabulate-turn f (now (a .out)) (l .k) (omega (arith, in-table i)) (l .inv .1) (l .inv .2) in
     let t =
-    ⊎-elim (λ w. next 0 (c .if1 .out) (word-marked _ _ (c .before .is-marked .ensures) (w .0 .taken)) (w .1))
-    (λ w. next 0xFFFF_FFFF (c .if1 .out) (word-unmarked _ _ (c .before .is-marked .ensures) (w .0 .left)) (w .1))
+    ⊎-elim (λ w. next 0 (c .if1 .out) (sym (pick-yes 0 0xFFFF_FFFF (sym e ∙ w .0 .taken))) (w .1))
+    (λ w. next 0xFFFF_FFFF (c .if1 .out) (sym (pick-no 0 0xFFFF_FFFF (sym e ∙ w .0 .left))) (w .1))
     (c .if1 .came) in
     (omega arith, t .0, t .1)
 
@@ -93,10 +85,9 @@ same-length c = c .before .loop .inv .2
 
 returns : tie.Need-returns Inv-loop μ-loop
 returns c =
-    let counted = c .before .before in
-    let s = counted .before .before .before .before .args in
-    let e : c .before .loop .k ≡ records (s .grid) = omega (arith, counted .record-count .ensures) in
-    c .before .loop .inv .1 ∙ rw (e, counted .before .block-records .ensures) (ap (over (now (s .out)) 0) (records-filled (s .grid) (now (s .marks)) (records (s .grid))))
+    let l = c .before .loop in
+    let e : l .k ≡ records (start (c .before) .args .grid) = omega (arith, c .before .before .record-count .ensures) in
+    l .inv .1 ∙ rw e
 
 pub fill-records-spec : {M : Type 1} → statement M
 fill-records-spec =
@@ -104,10 +95,9 @@ fill-records-spec =
     (tie.spec
     Inv-loop
     μ-loop
-    block-records-requires
     record-count-requires
     loop-holds
-    div-is-marked
+    filled-block-requires
     is-marked-requires
     mul-out
     slice-write-out

@@ -1,18 +1,19 @@
--- `put_offsets` meets its contract: the first k offsets are put.
+-- `mask::write::put_offsets` meets its contract: the first k offsets are put.
 -- Assumes nothing.
 use mathlib.Core.Path.{_≡_, refl, _∙_}
 use Prim.Native.Nat.{_-_, _≤_}
 use native.Mathlib.Omega.{arith}
 use denote.Ref.{now}
 use lib.ListN.{length, getD}
-use Rattle.bits.specs.Over.{over}
-use Rattle.samples.specs.Samples.{values}
-use Rattle.samples.proofs.Moves.{values-none, values-turn}
+use Rattle.common.specs.Over.{over}
+use Rattle.bits.specs.Values.{values}
+use Rattle.bits.proofs.Values.{values-none, values-turn}
 use Rattle.mask.proofs.write.put_offsets.Statement.{statement}
 use Rattle.mask.proofs.write.put_offsets.Tie as tie
 
 abbrev Inv-loop : tie.InvT-loop
-Inv-loop list out₀ at k₀ k-end out k = (k ≤ k-end) × (out ≡ over out₀ at (values (λ i. getD list i 0) 4 k)) × (length out ≡ length out₀)
+Inv-loop list out₀ at k₀ k-end out k =
+    (k ≤ k-end) × (out ≡ over out₀ at (values (λ i. getD list i 0) 4 k)) × (length out ≡ length out₀)
 
 abbrev μ-loop : tie.MeasureT-loop
 μ-loop list out₀ at k₀ k-end out k = k-end - k
@@ -50,7 +51,8 @@ loop-again c =
     let head = put .before .before .before .before in
     let a = head .before .before .before .args in (
       omega arith,
-      values-turn (λ i. getD (now (a .list)) i 0) 4 (now (a .out)) (a .at) (head .loop .k) (omega arith) (head .loop .inv .1) refl (put .put-be .ensures),
+      values-turn (λ i. getD (now (a .list)) i 0) 4 (now (a .out)) (a .at) (head .loop .k) (omega arith)
+          (head .loop .inv .1) refl (put .put-be .ensures),
       omega (arith, put .put-be .kept),
     )
 

@@ -1,4 +1,4 @@
--- `window_end` ends.
+-- `random_lists::ends::window_end` ends.
 -- Assumes nothing.
 use Prim.Native.Nat.{_-_, _≤_}
 use native.Mathlib.Omega.{arith}

@@ -1,4 +1,4 @@
--- `lend_and_call` lends parts of the buffers, inside them.
+-- `random_lists::lists::lend_and_call` lends parts of the buffers, inside them.
 -- Assumes nothing.
 use mathlib.Core.Path.{sym}
 use native.Mathlib.Omega.{arith}

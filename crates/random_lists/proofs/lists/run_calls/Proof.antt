@@ -1,4 +1,4 @@
--- `run_calls` ends.
+-- `random_lists::lists::run_calls` ends.
 -- Assumes nothing.
 use Prim.Native.Nat.{_-_, _≤_}
 use native.Mathlib.Omega.{arith}

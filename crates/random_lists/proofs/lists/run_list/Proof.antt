@@ -1,4 +1,4 @@
--- `run_list` lends parts of the buffers, inside them.
+-- `random_lists::lists::run_list` lends parts of the buffers, inside them.
 -- Assumes nothing.
 use mathlib.Core.Path.{sym}
 use native.Mathlib.Omega.{arith}

@@ -1,4 +1,4 @@
--- `product` does not overflow.
+-- `random_lists::numbers::product` does not overflow.
 -- Assumes nothing.
 use Prim.Native.Nat.{ℕ, _≤_, _*_, _%_}
 use native.Mathlib.Omega.{arith}

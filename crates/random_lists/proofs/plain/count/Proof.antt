@@ -1,4 +1,4 @@
--- `count` ends.
+-- `random_lists::plain::count` ends.
 -- Assumes nothing.
 use Prim.Native.Nat.{_-_, _≤_}
 use native.Mathlib.Omega.{arith}

@@ -1,4 +1,4 @@
--- `first` ends.
+-- `random_lists::plain::first` ends.
 -- Assumes nothing.
 use Prim.Native.Nat.{_-_, _≤_}
 use native.Mathlib.Omega.{arith}

@@ -1,4 +1,4 @@
--- `sample` ends.
+-- `random_lists::plain::sample` ends.
 -- Assumes nothing.
 use Prim.Native.Nat.{_-_, _≤_}
 use native.Mathlib.Omega.{arith}

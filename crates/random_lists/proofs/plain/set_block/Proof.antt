@@ -1,4 +1,4 @@
--- `set_block` ends.
+-- `random_lists::plain::set_block` ends.
 -- Assumes nothing.
 use Prim.Native.Nat.{_-_, _≤_}
 use native.Mathlib.Omega.{arith}

@@ -1,4 +1,4 @@
--- `fill` writes inside its slice and ends.
+-- `random_lists::random::fill` writes inside its slice and ends.
 -- Assumes nothing.
 use Prim.Native.Nat.{_-_, _≤_}
 use native.Mathlib.Omega.{arith}

@@ -1,4 +1,4 @@
--- `altered_bytes` ends.
+-- `random_lists::reads::altered_bytes` ends.
 -- Assumes nothing.
 use Prim.Native.Nat.{_-_, _≤_}
 use native.Mathlib.Omega.{arith}

@@ -1,4 +1,4 @@
--- `lend_and_read` lends parts of the image and of the output, inside them.
+-- `random_lists::reads::lend_and_read` lends parts of the image and of the output, inside them.
 -- Assumes nothing.
 use mathlib.Core.Path.{sym}
 use native.Mathlib.Omega.{arith}

@@ -1,4 +1,4 @@
--- `random_window` hands over a part of its list, inside it.
+-- `random_lists::reads::random_window` hands over a part of its list, inside it.
 -- Assumes nothing.
 use mathlib.Core.Path.{sym}
 use native.Mathlib.Omega.{arith}

@@ -1,4 +1,4 @@
--- `wrong_samples` ends.
+-- `random_lists::reads::wrong_samples` ends.
 -- Assumes nothing.
 use Prim.Native.Nat.{_-_, _≤_}
 use native.Mathlib.Omega.{arith}

@@ -1,4 +1,4 @@
--- `Reader::check` meets its contract: a walk of its MIR, by hand. The grid is taken out of the struct, and `Grid::check` is called on it.
+-- `reader::Reader::check` meets its contract: a walk of its MIR, by hand. The grid is taken out of the struct, and `Grid::check` is called on it.
 -- Assumes nothing.
 use mathlib.Core.Path.{_≡_, refl}
 use Prim.Native.Nat.{ℕ}

@@ -1,4 +1,4 @@
--- `Reader::decode_block` meets its contract: a walk of its MIR, by hand. The struct is taken apart, and `reading::decode_block` is called on the image, the grid and the further parameters.
+-- `reader::Reader::decode_block` meets its contract: a walk of its MIR, by hand. The struct is taken apart, and `reading::decode_block` is called on the image, the grid and the further parameters.
 -- `out` is passed on at its own lifetime, share and ghost name, so what the callee says of its last list is what the method says.
 -- Assumes nothing.
 use mathlib.Core.Path.{refl}
@@ -22,8 +22,8 @@ use denote.Slice.{slice-vals, shr-slice-tells, shr-slice-lawful, mut-slice-tells
 use denote.Struct.Laws as LL
 use denote.Triple.Clauses.{Clauses}
 use denote.Triple.Entry.{Args, Vals, onEntry}
-use Rattle.frame.proofs.Shape as Sh
-use Rattle.frame.proofs.Shape.Laws as Sh′
+use Rattle.calls.proofs.Shape as Sh
+use Rattle.calls.proofs.Shape.Laws as Sh′
 use Rattle.reading.proofs.decode_block as callee
 use Rattle.reading.proofs.decode_block.Met as callee-thm
 use Rattle.reader.proofs.Reader as T

@@ -1,4 +1,4 @@
--- `Reader::new` meets its contract: a walk of its MIR, by hand. The struct is made in the result's local, of the slice and the grid.
+-- `reader::Reader::new` meets its contract: a walk of its MIR, by hand. The struct is made in the result's local, of the slice and the grid.
 -- Assumes nothing.
 use mathlib.Core.Path.{refl}
 use Prim.Native.Nat.{ℕ}

@@ -1,4 +1,4 @@
--- `Reader::whole_block` meets its contract: a walk of its MIR, by hand. The struct is taken apart, and `reading::whole::whole_block` is called on the image, the grid and the further parameters.
+-- `reader::Reader::whole_block` meets its contract: a walk of its MIR, by hand. The struct is taken apart, and `reading::whole::whole_block` is called on the image, the grid and the further parameters.
 -- Assumes nothing.
 use mathlib.Core.Path.{refl}
 use mathlib.Core.List.{[], _∷_}

@@ -1,30 +1,27 @@
 -- `reading::whole::whole_block` meets its contract: the block's nominal bytes, or none.
 -- Assumes nothing.
 use borrow.Author.Needs.{needs}
-use mathlib.Core.Path.{sym, _∙_}
+use mathlib.Core.Path.{_≡_, sym, _∙_}
+use mathlib.Core.List.{List, []}
+use Prim.Native.Nat.{ℕ, _+_, _-_}
 use native.Mathlib.Omega.{arith}
 use denote.Ref.{now}
-use lib.ListN.{length}
-use Prim.Native.Nat.{_+_, _*_, _^_, _≤_, _<_}
-use Rattle.grid.specs.Sizes.{bandBytes, blockIndex}
-use Rattle.reading.proofs.BlockNumbers.{Nominal, nominal-fits, Whole, whole-facts, whole-refused, whole-none, whole-bytes}
+use lib.ListN.{length, take, drop}
+use Rattle.common.proofs.Questions.{outcome-yes, refused-by}
+use Rattle.grid.specs.Layout.{wholeStart, wholeLength}
+use Rattle.grid.proofs.Accepted.{facts}
+use Rattle.grid.proofs.BlockLayouts.{whole-in}
+use Rattle.calls.specs.Reads.{wholeBlock}
+use Rattle.reading.proofs.BlockNumbers.{Whole, whole-facts}
 use Rattle.reading.proofs.whole.whole_block.Statement.{statement}
 use Rattle.reading.proofs.whole.whole_block.Tie as tie
 
-facts : (c : tie.Else1) → let a = c .before .before .before .args in Whole (a .grid) (length (now (a .image))) (a .block-row) (a .block-col)
-facts c = whole-facts _ _ _ _ (sym (c .before .whole-number .ensures) ∙ c .if1 .left)
+known : (c : tie.Else1) → let a = c .before .before .before .args in Whole (a .grid) (length (now (a .image))) (a .block-row) (a .block-col)
+known c = whole-facts _ _ _ _ (sym (c .before .whole-number .ensures) ∙ c .if1 .left)
 
-fits : (c : tie.Else1) → let a = c .before .before .before .args in Nominal (blockIndex (a .grid) (a .block-row) (a .block-col)) (a .grid .bands * bandBytes (a .grid))
-fits c = let t = facts c in nominal-fits _ (t .accepted) _ _ (t .block)
-
-ends : (c : tie.After-block-index) → c .block-index .result * c .before .block-bytes .result + c .before .block-bytes .result < 2 ^ 64
-ends c = rw (c .block-index .ensures, c .before .block-bytes .ensures) (fits (c .before .before .before) .end)
-
--- the image reaches the block's end
-reached : (c : tie.After-block-index) → c .block-index .result * c .before .block-bytes .result + c .before .block-bytes .result ≤ length (now (c .before .before .before .before .before .before .args .image))
-reached c =
-    rw (c .block-index .ensures, c .before .block-bytes .ensures)
-    (omega (arith, facts (c .before .before .before) .reached (c .before .before .match .keys2)))
+-- a part told by its start and its length
+part-is : (xs : List ℕ) (start size : ℕ) → take (start + size - start) (drop start xs) ≡ take size (drop start xs)
+part-is xs start size = let e : start + size - start ≡ size = omega arith in rw e
 
 whole-number-requires : tie.Need-whole-number-requires
 whole-number-requires c κs = search needs
@@ -39,12 +36,16 @@ part-result-end : tie.Need-part-result-end
 part-result-end c = search needs
 
 returns : tie.Need-returns
-returns c =
-    let a = c .before .before .before .before .args in
-    whole-refused (a .grid) (now (a .image)) (a .block-row) (a .block-col) (λ e. c .before .if1 .taken (c .before .before .whole-number .ensures ∙ e))
+unfolding wholeBlock
+returns c = refused-by _ (λ n. []) (c .before .before .whole-number .ensures) (c .before .if1 .taken)
 
-enum-told : tie.Need-enum-told
-enum-told c = search needs
+whole-block-requires : tie.Need-whole-block-requires
+whole-block-requires c κs = let t = known c in (t .accepted, t .block)
+
+add-end : tie.Need-add-end
+add-end c =
+    let t = known (c .before .before) in
+    rw (c .before .whole-block .ensures) (omega (arith, whole-in _ _ _ (t .block), facts _ (t .accepted) .image-le))
 
 sub-result-2 : tie.Need-sub-result-2
 sub-result-2 c = search needs
@@ -53,38 +54,16 @@ part-result-start-2 : tie.Need-part-result-start-2
 part-result-start-2 c = search needs
 
 part-result-end-2 : tie.Need-part-result-end-2
-part-result-end-2 c = search needs
-
-block-bytes-requires : tie.Need-block-bytes-requires
-block-bytes-requires c κs = facts (c .before) .accepted
-
-block-index-requires : tie.Need-block-index-requires
-block-index-requires c κs = let t = facts (c .before .before) in (t .accepted, t .block)
-
-mul-at : tie.Need-mul-at
-mul-at c = rw (c .block-index .ensures, c .before .block-bytes .ensures) (record { fits = fits (c .before .before .before) .start })
-
-add-end : tie.Need-add-end
-add-end c = omega (arith, ends c)
-
-sub-result-3 : tie.Need-sub-result-3
-sub-result-3 c = search needs
-
-part-result-start-3 : tie.Need-part-result-start-3
-part-result-start-3 c = search needs
-
-part-result-end-3 : tie.Need-part-result-end-3
-part-result-end-3 c = omega (arith, reached c)
+part-result-end-2 c = rw (c .before .whole-block .ensures) (known (c .before .before) .reached)
 
 returns-2 : tie.Need-returns-2
+unfolding wholeBlock
 returns-2 c =
-    let a = c .before .before .before .before .before .before .args in
-    whole-none (a .grid) (now (a .image)) (a .block-row) (a .block-col) (c .before .enum-told .given .1)
-
-returns-3 : tie.Need-returns-3
-returns-3 c =
-    let a = c .before .before .before .before .before .before .before .args in
-    whole-bytes (a .grid) (now (a .image)) (a .block-row) (a .block-col) (c .before .block-index .ensures) (c .before .before .block-bytes .ensures) (sym (c .before .before .before .before .before .whole-number .ensures) ∙ c .before .before .before .before .if1 .left) (c .before .before .before .match .keys2)
+    let w = c .before .before in
+    let h = w .before in
+    let a = h .before .before .before .args in
+    rw (w .whole-block .ensures)
+    (part-is (now (a .image)) (wholeStart (a .grid) (a .block-row) (a .block-col)) (wholeLength (a .grid)) ∙ sym (outcome-yes _ (λ n. []) (sym (h .before .whole-number .ensures) ∙ h .if1 .left)))
 
 pub whole-block-spec : {M : Type 1} → statement M
 whole-block-spec =
@@ -95,16 +74,9 @@ whole-block-spec =
     part-result-start
     part-result-end
     returns
-    enum-told
+    whole-block-requires
+    add-end
     sub-result-2
     part-result-start-2
     part-result-end-2
-    block-bytes-requires
-    block-index-requires
-    mul-at
-    add-end
-    sub-result-3
-    part-result-start-3
-    part-result-end-3
-    returns-2
-    returns-3)
+    returns-2)

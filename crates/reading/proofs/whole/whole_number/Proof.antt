@@ -1,73 +1,58 @@
 -- `reading::whole::whole_number` meets its contract: each "no" gives its number.
 -- Assumes nothing.
 use borrow.Author.Needs.{needs}
-use mathlib.Core.Path.{sym, _∙_}
-use denote.Ref.{now}
-use lib.ListN.{length}
-use Prim.Native.Nat.{_*_}
-use Rattle.grid.specs.Check.{Accepted}
-use Rattle.grid.specs.Layout.{Block}
-use Rattle.grid.specs.Sizes.{bandBytes, blockIndex}
-use Rattle.reading.proofs.BlockNumbers.{Nominal, nominal-fits, whole-grid, whole-row, whole-column, whole-7, whole-0, whole-s}
+use mathlib.Core.Path.{_≡_, sym, _∙_}
+use mathlib.Core.Bool.{true}
+use native.Mathlib.Omega.{arith}
+use borrow.Author.Tests.{le-leb, lt-leb}
+use Rattle.common.proofs.Flags.{no, yes}
+use Rattle.grid.specs.Check.{Accepted, q6}
+use Rattle.grid.proofs.Accepted.{facts, grid-no, grid-yes, block-in}
+use Rattle.grid.proofs.BlockLayouts.{whole-in}
+use Rattle.calls.specs.Orders.{wholeNumber}
 use Rattle.reading.proofs.whole.whole_number.Statement.{statement}
 use Rattle.reading.proofs.whole.whole_number.Tie as tie
 
 accepted : (c : tie.Else1) → Accepted (c .before .before .before .args .grid)
 accepted c = sym (c .before .check .ensures) ∙ c .if1 .left
 
-block : (c : tie.Else3) → let a = c .before .before .before .before .before .before .before .args in Block (a .grid) (a .block-row) (a .block-col)
-block c = record { in-row = c .before .before .if2 .left; in-column = c .if3 .left }
-
-fits : (c : tie.Else3) → let a = c .before .before .before .before .before .before .before .args in Nominal (blockIndex (a .grid) (a .block-row) (a .block-col)) (a .grid .bands * bandBytes (a .grid))
-fits c = nominal-fits _ (accepted (c .before .before .before .before)) _ _ (block c)
+q6-yes : (c : tie.Else2) → let a = c .before .before .before .before .before .args in q6 (a .grid) (a .block-row) (a .block-col) ≡ true
+q6-yes c = yes (c .before .has-block .ensures) (c .if2 .left)
 
 check-requires : tie.Need-check-requires
 check-requires c κs = search needs
 
 returns : tie.Need-returns
-returns c =
-    let a = c .before .before .before .args in
-    c .before .check .ensures ∙ whole-grid (a .grid) (length (now (a .image))) (a .block-row) (a .block-col) (λ e. c .if1 .taken (c .before .check .ensures ∙ e))
+unfolding wholeNumber
+returns c = c .before .check .ensures ∙ sym (grid-no _ _ (λ e. c .if1 .taken (c .before .check .ensures ∙ e)))
+
+has-block-requires : tie.Need-has-block-requires
+has-block-requires c κs = search needs
 
 returns-2 : tie.Need-returns-2
-returns-2 c =
-    let a = c .before .before .before .before .before .args in
-    whole-row (a .grid) (length (now (a .image))) (a .block-row) (a .block-col) (accepted (c .before .before)) (c .if2 .taken)
+unfolding wholeNumber
+returns-2 c = rw (grid-yes _ _ (accepted (c .before .before)), no (c .before .has-block .ensures) (c .if2 .taken))
+
+whole-block-requires : tie.Need-whole-block-requires
+whole-block-requires c κs = (accepted (c .before .before), block-in _ _ _ (q6-yes c))
+
+add-if3 : tie.Need-add-if3
+add-if3 c =
+    let b = c .before .before in
+    rw (c .before .whole-block .ensures)
+    (omega (arith, whole-in _ _ _ (block-in _ _ _ (q6-yes b)), facts _ (accepted (b .before .before)) .image-le))
 
 returns-3 : tie.Need-returns-3
+unfolding wholeNumber
 returns-3 c =
-    let a = c .before .before .before .before .before .before .before .args in
-    whole-column (a .grid) (length (now (a .image))) (a .block-row) (a .block-col) (accepted (c .before .before .before .before)) (c .before .before .if2 .left) (c .if3 .taken)
-
-enum-told : tie.Need-enum-told
-enum-told c = search needs
-
-block-index-requires : tie.Need-block-index-requires
-block-index-requires c κs = (accepted (c .before .before .before .before .before), block (c .before))
-
-add-if4 : tie.Need-add-if4
-add-if4 c = rw (c .block-index .ensures) (record { fits = fits (c .before .before) .next })
-
-block-bytes-requires : tie.Need-block-bytes-requires
-block-bytes-requires c κs = search needs
-
-mul-if4 : tie.Need-mul-if4
-mul-if4 c = rw (c .before .block-index .ensures, c .block-bytes .ensures) (record { fits = fits (c .before .before .before) .reach })
+    let b = c .before .before .before in
+    rw (grid-yes _ _ (accepted (b .before .before)), q6-yes b, lt-leb _ _ (rw (c .before .before .whole-block .ensures) at (c .if3 .taken)))
 
 returns-4 : tie.Need-returns-4
+unfolding wholeNumber
 returns-4 c =
-    let a = c .before .before .before .before .before .before .before .before .before .before .before .args in
-    whole-7 (a .grid) (length (now (a .image))) (a .block-row) (a .block-col) (accepted (c .before .before .before .before .before .before .before .before)) (block (c .before .before .before .before)) (c .before .before .before .match .keys2) (rw (c .before .before .block-index .ensures, c .before .block-bytes .ensures) at (c .if4 .taken))
-
-returns-5 : tie.Need-returns-5
-returns-5 c =
-    let a = c .before .before .before .before .before .before .before .before .before .args in
-    whole-s (a .grid) (length (now (a .image))) (a .block-row) (a .block-col) (accepted (c .before .before .before .before .before .before)) (block (c .before .before)) (c .enum-told .given .1)
-
-returns-6 : tie.Need-returns-6
-returns-6 c =
-    let a = c .before .before .before .before .before .before .before .before .before .before .before .args in
-    whole-0 (a .grid) (length (now (a .image))) (a .block-row) (a .block-col) (accepted (c .before .before .before .before .before .before .before .before)) (block (c .before .before .before .before)) (c .before .before .before .match .keys2) (rw (c .before .before .block-index .ensures, c .before .block-bytes .ensures) at (c .if4 .left))
+    let b = c .before .before .before in
+    rw (grid-yes _ _ (accepted (b .before .before)), q6-yes b, le-leb _ _ (rw (c .before .before .whole-block .ensures) at (c .if3 .left)))
 
 pub whole-number-spec : {M : Type 1} → statement M
 whole-number-spec =
@@ -75,13 +60,9 @@ whole-number-spec =
     (tie.spec
     check-requires
     returns
+    has-block-requires
     returns-2
+    whole-block-requires
+    add-if3
     returns-3
-    enum-told
-    block-index-requires
-    add-if4
-    block-bytes-requires
-    mul-if4
-    returns-4
-    returns-5
-    returns-6)
+    returns-4)

@@ -1,4 +1,4 @@
--- `wrong_bytes` ends.
+-- `recorded_answers::answers::wrong_bytes` ends.
 -- Assumes nothing.
 use Prim.Native.Nat.{_-_, _≤_}
 use native.Mathlib.Omega.{arith}

@@ -1,4 +1,4 @@
--- `wrong_values` ends.
+-- `recorded_answers::answers::wrong_values` ends.
 -- Assumes nothing.
 use Prim.Native.Nat.{_-_, _≤_}
 use native.Mathlib.Omega.{arith}

@@ -1,4 +1,4 @@
--- `print_kinds` ends.
+-- `recorded_answers::counts::print_kinds` ends.
 -- Assumes nothing.
 use Prim.Native.Nat.{_-_, _≤_}
 use native.Mathlib.Omega.{arith}

@@ -1,4 +1,4 @@
--- `copy_arguments` writes inside its slice and ends.
+-- `recorded_answers::replay::copy_arguments` writes inside its slice and ends.
 -- Assumes nothing.
 use Prim.Native.Nat.{_-_, _≤_}
 use native.Mathlib.Omega.{arith}

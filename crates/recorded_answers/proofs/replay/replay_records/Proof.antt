@@ -1,4 +1,4 @@
--- `replay_records` ends.
+-- `recorded_answers::replay::replay_records` ends.
 -- Assumes nothing.
 use Prim.Native.Nat.{_-_, _≤_}
 use native.Mathlib.Omega.{arith}

@@ -6,10 +6,10 @@ use native.Mathlib.Omega.{arith}
 use native.Mathlib.Nat.{mul-le-mul-right}
 use denote.Ref.{now}
 use lib.ListN.{length}
-use Rattle.bits.specs.Turns.{iter}
-use Rattle.bits.proofs.Turns.{iter-none, iter-turn}
+use Rattle.common.specs.Turns.{iter}
+use Rattle.common.proofs.Turns.{iter-none, iter-turn}
 use Rattle.samples.proofs.Moves.{Ends, ends}
-use Rattle.rows.specs.Rows.{pixelRead}
+use Rattle.rows.specs.Internal.Rows.{pixelRead}
 use Rattle.rows.proofs.listed.gather_listed_any.Statement.{statement}
 use Rattle.rows.proofs.listed.gather_listed_any.Tie as tie
 

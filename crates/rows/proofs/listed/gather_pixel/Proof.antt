@@ -7,12 +7,12 @@ use native.Mathlib.Omega.{arith}
 use denote.Ref.{now}
 use lib.ListN.{length, getD}
 use Rattle.bits.specs.Bits.{beBytes}
-use Rattle.bits.specs.Over.{over}
-use Rattle.bits.specs.Turns.{iter}
+use Rattle.common.specs.Over.{over}
+use Rattle.common.specs.Turns.{iter}
 use Rattle.bits.proofs.Bits.{within}
-use Rattle.bits.proofs.Turns.{iter-none, iter-turn}
-use Rattle.samples.specs.Samples.{values}
-use Rattle.rows.specs.Rows.{sampleRead}
+use Rattle.common.proofs.Turns.{iter-none, iter-turn}
+use Rattle.bits.specs.Values.{values}
+use Rattle.rows.specs.Internal.Rows.{sampleRead}
 use Rattle.rows.proofs.listed.gather_pixel.Statement.{statement}
 use Rattle.rows.proofs.listed.gather_pixel.Tie as tie
 

@@ -1,4 +1,4 @@
--- `samples::write::append` meets its contract: the shift loses nothing, and what is joined is apart.
+-- `samples::pack::append` meets its contract: the shift loses nothing, and what is joined is apart.
 -- Assumes nothing.
 use mathlib.Core.Path.{_≡_}
 use Prim.Native.Nat.{ℕ, _+_, _*_, _%_, _-_, _^_, _<_}

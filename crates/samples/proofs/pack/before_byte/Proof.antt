@@ -1,4 +1,4 @@
--- `samples::write::before_byte` meets its contract: k stays within the samples.
+-- `samples::pack::before_byte` meets its contract: k stays within the samples.
 -- Assumes nothing.
 use Prim.Native.Nat.{_-_, _≤_}
 use native.Mathlib.Omega.{arith}

@@ -1,4 +1,4 @@
--- `samples::write::exchange` meets its contract: the bits above the field, the field, the bits below it.
+-- `samples::pack::exchange` meets its contract: the bits above the field, the field, the bits below it.
 -- Assumes nothing.
 use mathlib.Core.Path.{_≡_, ap, _∙_}
 use Prim.Native.Nat.{ℕ, _+_, _*_, _/_, _%_, _-_, _^_, _<_}

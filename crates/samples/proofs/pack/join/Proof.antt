@@ -1,4 +1,4 @@
--- `samples::write::join` meets its contract: the number of the first k samples, which leaves room for one more.
+-- `samples::pack::join` meets its contract: the number of the first k samples, which leaves room for one more.
 -- Assumes nothing.
 use mathlib.Core.Path.{_≡_, _∙_}
 use Prim.Native.Nat.{ℕ, _*_, _-_, _^_, _≤_, _<_}
@@ -6,15 +6,15 @@ use native.Mathlib.Nat.{lt-of-lt-of-le}
 use native.Mathlib.Omega.{arith}
 use denote.Ref.{now}
 use lib.Pow.{pow-mono}
-use Rattle.samples.specs.Samples.{sideBySide}
-use Rattle.samples.specs.Groups.{joined}
-use Rattle.samples.proofs.Moves.{Ends, ends}
+use Rattle.bits.specs.Values.{sideBySide}
+use Rattle.samples.specs.Internal.Groups.{joined}
+use Rattle.samples.proofs.Moves.{Room-left, room-left}
 use Rattle.samples.proofs.Groups.{joined-none, joined-turn, joined-lt}
 use Rattle.samples.proofs.pack.join.Statement.{statement}
 use Rattle.samples.proofs.pack.join.Tie as tie
 
 abbrev Inv-loop : tie.InvT-loop
-Inv-loop dat from size width group acc₀ k₀ acc k = (k ≤ group) × (acc ≡ joined (sideBySide dat from size) width k)
+Inv-loop dat from size width group acc₀ k₀ acc k = (k ≤ group) × (acc ≡ joined (sideBySide dat from size) width k) × Room-left k group width size
 
 abbrev μ-loop : tie.MeasureT-loop
 μ-loop dat from size width group acc₀ k₀ acc k = group - k
@@ -22,27 +22,22 @@ abbrev μ-loop : tie.MeasureT-loop
 room : (v : ℕ → ℕ) (w k : ℕ) → k * w ≤ 64 - w → joined v w k < 2 ^ (64 - w)
 room v w k h = lt-of-lt-of-le (joined-lt v w k) (pow-mono {i = k * w} {j = 64 - w} h)
 
--- in a turn: sample k ends within the group
-ends-in : (c : tie.In-loop Inv-loop μ-loop) → let a = c .before .before .before .args in Ends (c .before .loop .k) (a .group) (a .width) (a .size)
-ends-in c = let a = c .before .before .before .args in ends (c .before .loop .k) (a .group) (a .width) (a .size) (c .loop-test .taken)
-
 loop-holds : tie.Need-loop-holds Inv-loop μ-loop
-loop-holds c = (omega arith, joined-none _ _)
+loop-holds c = (omega arith, joined-none _ _, room-left _ _ _ _ (omega arith))
 
 mul-get-be : tie.Need-mul-get-be Inv-loop μ-loop
-mul-get-be c = omega (arith, ends-in c)
+mul-get-be c = omega arith
 
 add-get-be : tie.Need-add-get-be Inv-loop μ-loop
-add-get-be c = omega (arith, ends-in c)
+add-get-be c = omega arith
 
 get-be-requires : tie.Need-get-be-requires Inv-loop μ-loop
-get-be-requires c κs = omega (arith, ends-in c)
+get-be-requires c κs = omega arith
 
 append-requires : tie.Need-append-requires Inv-loop μ-loop
 append-requires c κs =
     let head = c .before .before in
     let a = head .before .before .args in
-    let f = ends-in (c .before) in
     (omega arith, rw (head .loop .inv .1) (room (sideBySide (now (a .dat)) (a .from) (a .size)) (a .width) (head .loop .k) (omega arith)))
 
 add-k : tie.Need-add-k Inv-loop μ-loop
@@ -55,8 +50,7 @@ loop-again : tie.Need-loop-again Inv-loop μ-loop
 unfolding sideBySide
 loop-again c =
     let head = c .before .before .before in
-    let a = head .before .before .args in
-    (omega arith, joined-turn (sideBySide (now (a .dat)) (a .from) (a .size)) (a .width) (head .loop .k) (head .loop .inv .1) (c .before .get-be .ensures) (c .append .ensures))
+    (omega arith, joined-turn _ _ _ (head .loop .inv .1) (c .before .get-be .ensures) (c .append .ensures), room-left _ _ _ _ (omega arith))
 
 returns : tie.Need-returns Inv-loop μ-loop
 returns c = let e : c .before .loop .k ≡ c .before .before .before .args .group = omega arith in c .before .loop .inv .1 ∙ rw e

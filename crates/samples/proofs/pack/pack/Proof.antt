@@ -1,4 +1,4 @@
--- `samples::write::pack` meets its contract: side by side, one sample comes every `width` bits.
+-- `samples::pack::pack` meets its contract: side by side, one sample comes every `width` bits.
 -- Assumes nothing.
 use native.Mathlib.Omega.{arith}
 use borrow.Author.Needs.{needs}

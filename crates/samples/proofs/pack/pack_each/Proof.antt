@@ -1,4 +1,4 @@
--- `samples::write::pack_each` meets its contract: each arm is the call at its literal.
+-- `samples::pack::pack_each` meets its contract: each arm is the call at its literal.
 -- Assumes nothing.
 use native.Mathlib.Omega.{arith}
 use borrow.Author.Needs.{needs}
@@ -36,13 +36,13 @@ same-length-2 : tie.Need-same-length-2
 same-length-2 c = search needs
 
 returns-2 : tie.Need-returns-2
-returns-2 c = rw (c .before .before .before .before .match .keys1) (c .before .before .pack-by-bytes .ensures)
+returns-2 c = cc
 
 same-length-3 : tie.Need-same-length-3
 same-length-3 c = search needs
 
 returns-3 : tie.Need-returns-3
-returns-3 c = rw (c .before .before .before .before .match .keys2) (c .before .before .pack-by-bytes2 .ensures)
+returns-3 c = cc
 
 same-length-4 : tie.Need-same-length-4
 same-length-4 c = search needs

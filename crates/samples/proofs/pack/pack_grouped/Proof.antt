@@ -1,4 +1,4 @@
--- `samples::write::pack_grouped` meets its contract: whole groups from a whole byte on, then the rest.
+-- `samples::pack::pack_grouped` meets its contract: whole groups from a whole byte on, then the rest.
 -- Assumes nothing.
 use mathlib.Core.Path.{_≡_}
 use Prim.Native.Nat.{_*_, _/_, _≤_}

@@ -1,4 +1,4 @@
--- `samples::write::pack_groups` meets its contract: each arm is the call at its literals.
+-- `samples::pack::pack_groups` meets its contract: each arm is the call at its literals.
 -- Assumes nothing.
 use mathlib.Core.Path.{_≡_}
 use native.Mathlib.Omega.{arith}
@@ -16,7 +16,10 @@ pairs-in c =
     (c .before .before .if1 .taken, w, g, omega (arith, rw (w, g) at (start .pre)))
 
 pack-groups-any-requires : tie.Need-pack-groups-any-requires
-pack-groups-any-requires c κs = let p = pairs-in (c .before) in rw (p .0, p .1, p .2, p .3) at (c .before .before .before .before .before .before .pre)
+pack-groups-any-requires c κs =
+    let pairs = c .before in
+    let p = pairs-in pairs in
+    rw (p .0, p .1, p .2, p .3) at (pairs .before .before .before .before .before .pre)
 
 same-length : tie.Need-same-length
 same-length c = search needs
@@ -40,19 +43,19 @@ same-length-2 : tie.Need-same-length-2
 same-length-2 c = search needs
 
 returns-2 : tie.Need-returns-2
-returns-2 c = rw (c .before .before .before .before .match .keys1) (c .before .before .pack-groups-any2 .ensures)
+returns-2 c = cc
 
 same-length-3 : tie.Need-same-length-3
 same-length-3 c = search needs
 
 returns-3 : tie.Need-returns-3
-returns-3 c = rw (c .before .before .before .before .match .keys2) (c .before .before .pack-groups-any3 .ensures)
+returns-3 c = cc
 
 same-length-4 : tie.Need-same-length-4
 same-length-4 c = search needs
 
 returns-4 : tie.Need-returns-4
-returns-4 c = rw (c .before .before .before .before .match .keys3) (c .before .before .pack-groups-any4 .ensures)
+returns-4 c = cc
 
 same-length-5 : tie.Need-same-length-5
 same-length-5 c = search needs

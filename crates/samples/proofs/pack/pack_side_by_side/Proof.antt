@@ -1,4 +1,4 @@
--- `samples::write::pack_side_by_side` meets its contract: the samples up to a whole byte, then the rest.
+-- `samples::pack::pack_side_by_side` meets its contract: the samples up to a whole byte, then the rest.
 -- Assumes nothing.
 use native.Mathlib.Omega.{arith}
 use denote.Ref.{now}

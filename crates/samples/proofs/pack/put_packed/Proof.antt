@@ -1,4 +1,4 @@
--- `samples::write::put_packed` meets its contract: a field of the number in n bytes.
+-- `samples::pack::put_packed` meets its contract: a field of the number in n bytes.
 -- Assumes nothing.
 use Prim.Native.Nat.{_*_, _%_, _-_}
 use native.Mathlib.Omega.{arith}

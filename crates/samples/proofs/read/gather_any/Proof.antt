@@ -1,46 +1,41 @@
 -- `samples::read::gather_any` meets its contract: the first k samples are put.
 -- Assumes nothing.
-use mathlib.Core.Path.{_≡_, _∙_, refl}
-use Prim.Native.Nat.{_*_, _-_, _≤_}
+use mathlib.Core.Path.{_≡_, _∙_}
+use Prim.Native.Nat.{_*_, _-_}
 use native.Mathlib.Omega.{arith}
-use denote.Ref.{now}
 use lib.ListN.{length}
-use Rattle.bits.specs.Over.{over}
-use Rattle.samples.specs.Samples.{values, spaced}
-use Rattle.samples.proofs.Moves.{Ends, ends, spaced-bytes, values-none, values-turn}
+use Rattle.samples.specs.Internal.Samples.{samplesRead}
+use Rattle.samples.proofs.Moves.{So-far, none-yet, one-more, spaced-bytes}
+use Rattle.bits.proofs.Values.{values-none, values-turn}
 use Rattle.samples.proofs.read.gather_any.Statement.{statement}
 use Rattle.samples.proofs.read.gather_any.Tie as tie
 
 abbrev Inv-loop : tie.InvT-loop
-Inv-loop src at step size count out₀ to k₀ out k = (k ≤ count) × (out ≡ over out₀ to (values (spaced src (8 * at) (8 * step) (8 * size)) size k)) × (length out ≡ length out₀)
+Inv-loop src at step size count out₀ to k₀ out k = So-far (samplesRead src (8 * at) (8 * step) (8 * size) size k to out₀) out (length out₀) count step size k
 
 abbrev μ-loop : tie.MeasureT-loop
 μ-loop src at step size count out₀ to k₀ out k = count - k
 
--- in a turn: sample k ends within each run
-ends-in : (c : tie.In-loop Inv-loop μ-loop) → let a = c .before .before .before .before .args in Ends (c .before .loop .k) (a .count) (a .step) (a .size)
-ends-in c = let a = c .before .before .before .before .args in ends (c .before .loop .k) (a .count) (a .step) (a .size) (c .loop-test .taken)
-
 loop-holds : tie.Need-loop-holds Inv-loop μ-loop
-loop-holds c = (omega arith, values-none _ _ _ _, refl)
+loop-holds c = none-yet (omega arith) (values-none _ _ _ _)
 
 mul-get-be : tie.Need-mul-get-be Inv-loop μ-loop
-mul-get-be c = omega (arith, ends-in c)
+mul-get-be c = omega arith
 
 add-get-be : tie.Need-add-get-be Inv-loop μ-loop
-add-get-be c = omega (arith, ends-in c)
+add-get-be c = omega arith
 
 get-be-requires : tie.Need-get-be-requires Inv-loop μ-loop
-get-be-requires c κs = omega (arith, ends-in c)
+get-be-requires c κs = omega arith
 
 mul-put-be : tie.Need-mul-put-be Inv-loop μ-loop
-mul-put-be c = omega (arith, ends-in (c .before .before))
+mul-put-be c = omega arith
 
 add-put-be : tie.Need-add-put-be Inv-loop μ-loop
-add-put-be c = omega (arith, ends-in (c .before .before))
+add-put-be c = omega arith
 
 put-be-requires : tie.Need-put-be-requires Inv-loop μ-loop
-put-be-requires c κs = omega (arith, ends-in (c .before .before))
+put-be-requires c κs = omega arith
 
 add-k : tie.Need-add-k Inv-loop μ-loop
 add-k c = omega arith
@@ -50,16 +45,10 @@ loop-less c = omega arith
 
 loop-again : tie.Need-loop-again Inv-loop μ-loop
 loop-again c =
-    let head = c .before .before .before .before .before .before in
-    let a = head .before .before .before .args in
-    let got = c .before .before .before .before .get-be in
-    let put = c .before .before .put-be in
-    let f = ends-in (c .before .before .before .before .before) in (
-      omega arith,
-      values-turn (spaced (now (a .src)) (8 * a .at) (8 * a .step) (8 * a .size)) (a .size) (now (a .out)) (a .to) (head .loop .k) (omega arith)
-          (head .loop .inv .1) (got .ensures ∙ spaced-bytes (now (a .src)) (a .at) (a .step) (a .size) (head .loop .k) (λ i. head .before .before .shared-slice-known .given i .fits)) (put .ensures),
-      omega (arith, put .kept),
-    )
+    let put = c .before .before in let got = put .before .before in let head = got .before .before in
+    one-more (head .loop .inv) (omega (arith, put .put-be .kept))
+    (values-turn _ _ _ _ _ (omega arith) (head .loop .inv .1)
+    (got .get-be .ensures ∙ spaced-bytes _ _ _ _ _ (λ i. head .before .before .shared-slice-known .given i .fits)) (put .put-be .ensures))
 
 same-length : tie.Need-same-length Inv-loop μ-loop
 same-length c = omega arith

@@ -1,4 +1,4 @@
--- `samples::read::count_by_eight` meets its contract: fewer samples end no later.
+-- `samples::unpack::count_by_eight` meets its contract: fewer samples end no later.
 -- Assumes nothing.
 use Prim.Native.Nat.{_*_, _-_, _≤_}
 use native.Mathlib.Nat.{mul-le-mul-right}

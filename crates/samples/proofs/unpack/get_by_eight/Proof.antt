@@ -1,4 +1,4 @@
--- `samples::read::get_by_eight` meets its contract: a field of the number in eight bytes.
+-- `samples::unpack::get_by_eight` meets its contract: a field of the number in eight bytes.
 -- Assumes nothing.
 use mathlib.Core.Path.{_≡_, _∙_}
 use mathlib.Core.List.{List}

@@ -1,4 +1,4 @@
--- `samples::read::unpack` meets its contract: the samples taken by eight bytes, and right after them the rest.
+-- `samples::unpack::unpack` meets its contract: the samples taken by eight bytes, and right after them the rest.
 -- Assumes nothing.
 use mathlib.Core.Path.{_≡_, sym, ap, _∙_}
 use mathlib.Core.List.{List}
@@ -7,8 +7,8 @@ use native.Mathlib.Nat.{add-mul, add-sub-of-le}
 use native.Mathlib.Omega.{arith}
 use denote.Ref.{now}
 use Rattle.bits.specs.Bits.{bitsAt}
-use Rattle.samples.specs.Samples.{spaced}
-use Rattle.samples.proofs.Moves.{values-run}
+use Rattle.samples.specs.Internal.Samples.{spaced}
+use Rattle.bits.proofs.Values.{values-run}
 use borrow.Author.Needs.{needs}
 use Rattle.samples.proofs.unpack.unpack.Statement.{statement}
 use Rattle.samples.proofs.unpack.unpack.Tie as tie
@@ -64,12 +64,14 @@ same-length c = search needs
 
 returns : tie.Need-returns
 returns c =
-    let counted = c .before .before .before .before .before .before .before .before in
+    let rest = c .before .before in
+    let first = rest .before .before .before .before in
+    let counted = first .before .before in
     let a = counted .before .before .before .args in
     let m : ℕ = counted .count-by-eight .result in
     let f = cut-in counted in
     values-run (spaced (now (a .src)) (a .at) (a .step) (a .width)) (spaced (now (a .src)) (a .at + m * a .step) (a .step) (a .width)) (a .size) (now (a .out)) (a .to) m (a .count - m) (omega arith)
-    (c .before .before .before .before .before .before .unpack-by-eight .ensures) (c .before .before .unpack-rest .ensures)
+    (first .unpack-by-eight .ensures) (rest .unpack-rest .ensures)
     (λ j l. spaced-rest (now (a .src)) (a .at) (a .step) (a .width) m j)
     ∙ rw (add-sub-of-le (f .0))
 

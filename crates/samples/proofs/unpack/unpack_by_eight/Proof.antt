@@ -1,4 +1,4 @@
--- `samples::read::unpack_by_eight` meets its contract: each arm is the call at its literal.
+-- `samples::unpack::unpack_by_eight` meets its contract: each arm is the call at its literal.
 -- Assumes nothing.
 use borrow.Author.Needs.{needs}
 use Rattle.samples.proofs.unpack.unpack_by_eight.Statement.{statement}
@@ -20,19 +20,19 @@ same-length : tie.Need-same-length
 same-length c = search needs
 
 returns : tie.Need-returns
-returns c = rw (c .before .before .before .before .match .keys1) (c .before .before .unpack-by-eight-any .ensures)
+returns c = cc
 
 same-length-2 : tie.Need-same-length-2
 same-length-2 c = search needs
 
 returns-2 : tie.Need-returns-2
-returns-2 c = rw (c .before .before .before .before .match .keys2) (c .before .before .unpack-by-eight-any2 .ensures)
+returns-2 c = cc
 
 same-length-3 : tie.Need-same-length-3
 same-length-3 c = search needs
 
 returns-3 : tie.Need-returns-3
-returns-3 c = rw (c .before .before .before .before .match .keys3) (c .before .before .unpack-by-eight-any3 .ensures)
+returns-3 c = cc
 
 same-length-4 : tie.Need-same-length-4
 same-length-4 c = search needs

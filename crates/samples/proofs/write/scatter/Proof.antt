@@ -52,31 +52,31 @@ same-length-2 : tie.Need-same-length-2
 same-length-2 c = search needs
 
 returns-2 : tie.Need-returns-2
-returns-2 c = rw (c .before .before .before .before .match .keys1) (c .before .before .scatter-any .ensures)
+returns-2 c = cc
 
 same-length-3 : tie.Need-same-length-3
 same-length-3 c = search needs
 
 returns-3 : tie.Need-returns-3
-returns-3 c = rw (c .before .before .before .before .match .keys2) (c .before .before .scatter-any2 .ensures)
+returns-3 c = cc
 
 same-length-4 : tie.Need-same-length-4
 same-length-4 c = search needs
 
 returns-4 : tie.Need-returns-4
-returns-4 c = rw (c .before .before .before .before .match .keys3) (c .before .before .scatter-any3 .ensures)
+returns-4 c = cc
 
 same-length-5 : tie.Need-same-length-5
 same-length-5 c = search needs
 
 returns-5 : tie.Need-returns-5
-returns-5 c = rw (c .before .before .before .before .match .keys4) (c .before .before .scatter-any4 .ensures)
+returns-5 c = cc
 
 same-length-6 : tie.Need-same-length-6
 same-length-6 c = search needs
 
 returns-6 : tie.Need-returns-6
-returns-6 c = rw (c .before .before .before .before .match .keys5) (c .before .before .scatter-any5 .ensures)
+returns-6 c = cc
 
 same-length-7 : tie.Need-same-length-7
 same-length-7 c = search needs

@@ -1,45 +1,42 @@
 -- `samples::write::scatter_any` meets its contract: the first k samples are put.
 -- Assumes nothing.
-use mathlib.Core.Path.{_≡_, _∙_, refl}
-use Prim.Native.Nat.{_*_, _-_, _≤_}
+use mathlib.Core.Path.{_≡_, _∙_}
+use Prim.Native.Nat.{_*_, _-_}
 use native.Mathlib.Omega.{arith}
-use denote.Ref.{now}
 use lib.ListN.{length}
-use Rattle.samples.specs.Samples.{sideBySide, putSpaced}
-use Rattle.samples.proofs.Moves.{Ends, ends, putSpaced-none, put-turn}
+use Rattle.bits.specs.Values.{sideBySide}
+use Rattle.samples.specs.Internal.Samples.{samplesWritten}
+use Rattle.samples.proofs.Moves.{So-far, none-yet, one-more, putSpaced-none, put-turn}
 use Rattle.samples.proofs.write.scatter_any.Statement.{statement}
 use Rattle.samples.proofs.write.scatter_any.Tie as tie
 
 abbrev Inv-loop : tie.InvT-loop
-Inv-loop dat from size img₀ at step count k₀ img k = (k ≤ count) × (img ≡ putSpaced (sideBySide dat from size) (8 * size) (8 * at) (8 * step) k img₀) × (length img ≡ length img₀)
+Inv-loop dat from size img₀ at step count k₀ img k =
+    So-far (samplesWritten dat from size (8 * size) (8 * at) (8 * step) k img₀) img (length img₀) count step size k
 
 abbrev μ-loop : tie.MeasureT-loop
 μ-loop dat from size img₀ at step count k₀ img k = count - k
 
--- in a turn: sample k ends within each run
-ends-in : (c : tie.In-loop Inv-loop μ-loop) → let a = c .before .before .before .before .args in Ends (c .before .loop .k) (a .count) (a .step) (a .size)
-ends-in c = let a = c .before .before .before .before .args in ends (c .before .loop .k) (a .count) (a .step) (a .size) (c .loop-test .taken)
-
 loop-holds : tie.Need-loop-holds Inv-loop μ-loop
-loop-holds c = (omega arith, putSpaced-none _ _ _ _ _, refl)
+loop-holds c = none-yet (omega arith) (putSpaced-none _ _ _ _ _)
 
 mul-get-be : tie.Need-mul-get-be Inv-loop μ-loop
-mul-get-be c = omega (arith, ends-in c)
+mul-get-be c = omega arith
 
 add-get-be : tie.Need-add-get-be Inv-loop μ-loop
-add-get-be c = omega (arith, ends-in c)
+add-get-be c = omega arith
 
 get-be-requires : tie.Need-get-be-requires Inv-loop μ-loop
-get-be-requires c κs = omega (arith, ends-in c)
+get-be-requires c κs = omega arith
 
 mul-put-be : tie.Need-mul-put-be Inv-loop μ-loop
-mul-put-be c = omega (arith, ends-in (c .before .before))
+mul-put-be c = omega arith
 
 add-put-be : tie.Need-add-put-be Inv-loop μ-loop
-add-put-be c = omega (arith, ends-in (c .before .before))
+add-put-be c = omega arith
 
 put-be-requires : tie.Need-put-be-requires Inv-loop μ-loop
-put-be-requires c κs = omega (arith, ends-in (c .before .before))
+put-be-requires c κs = omega arith
 
 add-k : tie.Need-add-k Inv-loop μ-loop
 add-k c = omega arith
@@ -50,16 +47,9 @@ loop-less c = omega arith
 loop-again : tie.Need-loop-again Inv-loop μ-loop
 unfolding sideBySide
 loop-again c =
-    let head = c .before .before .before .before .before .before in
-    let a = head .before .before .before .args in
-    let got = c .before .before .before .before .get-be in
-    let put = c .before .before .put-be in
-    let f = ends-in (c .before .before .before .before .before) in (
-      omega arith,
-      put-turn (sideBySide (now (a .dat)) (a .from) (a .size)) (a .size) (a .at) (a .step) (now (a .img)) (head .loop .k)
-          (λ i. head .before .slice-known .given i .fits) (omega arith) (head .loop .inv .1) (got .ensures) (put .ensures),
-      omega (arith, put .kept),
-    )
+    let put = c .before .before in let got = put .before .before in let head = got .before .before in
+    one-more (head .loop .inv) (omega (arith, put .put-be .kept))
+    (put-turn _ _ _ _ _ _ (λ i. head .before .slice-known .given i .fits) (omega arith) (head .loop .inv .1) (got .get-be .ensures) (put .put-be .ensures))
 
 same-length : tie.Need-same-length Inv-loop μ-loop
 same-length c = omega arith

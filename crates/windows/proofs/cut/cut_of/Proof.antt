@@ -6,7 +6,7 @@ use mathlib.Core.Path.{_≡_}
 use mathlib.Core.Logic.{⊎-elim}
 use native.Mathlib.Omega.{arith}
 use native.Mathlib.Nat.{mul-le-mul-left}
-use Rattle.windows.specs.Windows.{cutOf}
+use Rattle.windows.specs.Internal.Windows.{cutOf}
 use Rattle.windows.proofs.Cuts.{side-pos}
 use Rattle.windows.proofs.cut.cut_of.Statement.{statement}
 use Rattle.windows.proofs.cut.cut_of.Tie as tie

@@ -2,11 +2,11 @@
 -- Assumes nothing.
 use borrow.Author.Needs.{needs}
 use mathlib.Core.Path.{_≡_}
-use borrow.Author.Tests.{lt-ltb, le-ltb}
-use Rattle.grid.specs.Questions.{ask, every}
-use Rattle.frame.specs.Reads.{q6}
-use Rattle.frame.specs.Writes.{startNumber, skipNumber}
-use Rattle.writing.proofs.Refusals.{buffers-before}
+use Rattle.common.specs.Questions.{ask}
+use Rattle.common.proofs.Flags.{no, yes}
+use Rattle.grid.specs.Check.{q6}
+use Rattle.calls.specs.Orders.{startNumber, skipNumber}
+use Rattle.calls.proofs.Numbers.{buffers-before}
 use Rattle.writing.proofs.check.block_number.Statement.{statement}
 use Rattle.writing.proofs.check.block_number.Tie as tie
 
@@ -24,18 +24,14 @@ returns : tie.Need-returns
 unfolding startNumber skipNumber
 returns c = buffers-before _ _ _ .refuses (c .before .buffers-number .ensures) (c .if1 .taken) _
 
+has-block-requires : tie.Need-has-block-requires
+has-block-requires c κs = search needs
+
 returns-2 : tie.Need-returns-2
-unfolding q6 every
-returns-2 c = rw (asked (c .before .before), le-ltb _ _ (c .if2 .taken))
+returns-2 c = rw (asked (c .before .before), no (c .before .has-block .ensures) (c .if2 .taken))
 
 returns-3 : tie.Need-returns-3
-unfolding q6 every
-returns-3 c = rw (asked (c .before .before .before .before), lt-ltb _ _ (c .before .before .if2 .left), le-ltb _ _ (c .if3 .taken))
-
-returns-4 : tie.Need-returns-4
-unfolding q6 every
-returns-4 c = rw (asked (c .before .before .before .before), lt-ltb _ _ (c .before .before .if2 .left), lt-ltb _ _ (c .if3 .left))
+returns-3 c = rw (asked (c .before .before), yes (c .before .has-block .ensures) (c .if2 .left))
 
 pub block-number-spec : {M : Type 1} → statement M
-block-number-spec =
-    tie.close (tie.spec buffers-number-requires returns returns-2 returns-3 returns-4)
+block-number-spec = tie.close (tie.spec buffers-number-requires returns has-block-requires returns-2 returns-3)

@@ -2,14 +2,14 @@
 -- Assumes nothing.
 use borrow.Author.Needs.{needs}
 use mathlib.Core.Path.{_≡_, sym, _∙_}
-use native.Mathlib.Omega.{arith}
 use mathlib.Core.Bool.{true}
-use borrow.Author.Tests.{le-leb, lt-leb}
-use Rattle.grid.specs.Check.{gridNumber, Accepted}
-use Rattle.grid.proofs.Questions.{ask-yes, ask-no}
-use Rattle.grid.proofs.Accepted.{facts, grid-yes}
-use Rattle.frame.specs.Writes.{q11, q12, startNumber}
-use Rattle.writing.proofs.Refusals.{grid-before}
+use native.Mathlib.Omega.{arith}
+use Rattle.common.proofs.Flags.{no, yes}
+use Rattle.grid.specs.Check.{gridNumber, Accepted, q11}
+use Rattle.grid.specs.Sizes.{blocks}
+use Rattle.grid.proofs.Accepted.{facts, grid-yes, grid-before}
+use Rattle.marks.specs.Marks.{q12}
+use Rattle.calls.specs.Orders.{startNumber}
 use Rattle.writing.proofs.check.buffers_number.Statement.{statement}
 use Rattle.writing.proofs.check.buffers_number.Tie as tie
 
@@ -17,10 +17,13 @@ use Rattle.writing.proofs.check.buffers_number.Tie as tie
 accepted : (c : tie.Else1) → Accepted (c .before .before .args .grid)
 accepted c = sym (c .before .check .ensures) ∙ c .if1 .left
 
+-- the function's start
+abbrev start : tie.Else2 → tie.Start
+start c = c .before .before .before .before
+
 -- and past question 11
-enough : (c : tie.Else2) → q11 (c .before .before .before .before .args .grid) (c .before .before .before .before .args .image) ≡ true
-unfolding q11
-enough c = le-leb _ _ (rw (c .before .image-bytes .ensures) at (c .if2 .left))
+holds : (c : tie.Else2) → let a = start c .args in q11 (a .grid) (a .image) ≡ true
+holds c = yes (c .before .fits-in .ensures) (c .if2 .left)
 
 check-requires : tie.Need-check-requires
 check-requires c κs = search needs
@@ -29,30 +32,35 @@ returns : tie.Need-returns
 unfolding gridNumber startNumber
 returns c = grid-before _ .refuses (c .before .check .ensures) (c .if1 .taken) _
 
-image-bytes-requires : tie.Need-image-bytes-requires
-image-bytes-requires c κs = search needs
+fits-in-requires : tie.Need-fits-in-requires
+fits-in-requires c κs = search needs
 
 returns-2 : tie.Need-returns-2
-unfolding startNumber q11
-returns-2 c = sym (grid-yes _ _ (accepted (c .before .before)) ∙ ask-no 11 _ (lt-leb _ _ (rw (c .before .image-bytes .ensures) at (c .if2 .taken))))
+unfolding startNumber
+returns-2 c = rw (grid-yes _ _ (accepted (c .before .before)), no (c .before .fits-in .ensures) (c .if2 .taken))
 
 blocks-requires : tie.Need-blocks-requires
 blocks-requires c κs = search needs
 
-mark-words-requires : tie.Need-mark-words-requires
-mark-words-requires c κs = rw (c .blocks2 .ensures) (omega (arith, facts _ (accepted (c .before .before .before)) .blocks-le))
+has-words-requires : tie.Need-has-words-requires
+has-words-requires c κs = rw (c .blocks2 .ensures) (omega (arith, facts _ (accepted (c .before .before .before)) .blocks-le))
+
+-- question 12, as the code asks it
+words-are : (c : tie.After-has-words)
+    → let a = start (c .before .before) .args in c .has-words .result ≡ q12 (blocks (a .grid)) (a .words)
+words-are c = rw (c .before .blocks2 .ensures) at (c .has-words .ensures)
 
 returns-3 : tie.Need-returns-3
-unfolding startNumber q12
+unfolding startNumber
 returns-3 c =
-    let words = c .before in
-    sym (grid-yes _ _ (accepted (c .before .before .before .before .before)) ∙ ask-yes 11 _ (enough (c .before .before .before)) ∙ ask-no 12 _ (lt-leb _ _ (rw (words .mark-words .ensures, words .before .blocks2 .ensures) at (c .if3 .taken))))
+    let e = c .before .before .before in
+    rw (grid-yes _ _ (accepted (e .before .before)), holds e, no (words-are (c .before)) (c .if3 .taken))
 
 returns-4 : tie.Need-returns-4
-unfolding startNumber q12
+unfolding startNumber
 returns-4 c =
-    let words = c .before in
-    sym (grid-yes _ _ (accepted (c .before .before .before .before .before)) ∙ ask-yes 11 _ (enough (c .before .before .before)) ∙ ask-yes 12 _ (le-leb _ _ (rw (words .mark-words .ensures, words .before .blocks2 .ensures) at (c .if3 .left))))
+    let e = c .before .before .before in
+    rw (grid-yes _ _ (accepted (e .before .before)), holds e, yes (words-are (c .before)) (c .if3 .left))
 
 pub buffers-number-spec : {M : Type 1} → statement M
 buffers-number-spec =
@@ -60,9 +68,9 @@ buffers-number-spec =
     (tie.spec
     check-requires
     returns
-    image-bytes-requires
+    fits-in-requires
     returns-2
     blocks-requires
-    mark-words-requires
+    has-words-requires
     returns-3
     returns-4)

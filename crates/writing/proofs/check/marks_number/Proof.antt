@@ -1,14 +1,14 @@
 -- `writing::check::marks_number` meets its contract, question by question.
 -- Assumes nothing.
 use borrow.Author.Needs.{needs}
-use mathlib.Core.Path.{sym, _∙_}
+use mathlib.Core.Path.{_≡_, sym, _∙_}
 use native.Mathlib.Omega.{arith}
-use borrow.Author.Tests.{le-leb, lt-leb}
+use Rattle.common.proofs.Flags.{no, yes}
 use Rattle.grid.specs.Check.{gridNumber, Accepted}
-use Rattle.grid.proofs.Questions.{ask-yes, ask-no}
-use Rattle.grid.proofs.Accepted.{facts, grid-yes}
-use Rattle.frame.specs.Writes.{q12, progressNumber}
-use Rattle.writing.proofs.Refusals.{grid-before}
+use Rattle.grid.specs.Sizes.{blocks}
+use Rattle.grid.proofs.Accepted.{facts, grid-yes, grid-before}
+use Rattle.marks.specs.Marks.{q12}
+use Rattle.calls.specs.Orders.{progressNumber}
 use Rattle.writing.proofs.check.marks_number.Statement.{statement}
 use Rattle.writing.proofs.check.marks_number.Tie as tie
 
@@ -26,22 +26,22 @@ returns c = grid-before _ .refuses (c .before .check .ensures) (c .if1 .taken) _
 blocks-requires : tie.Need-blocks-requires
 blocks-requires c κs = search needs
 
-mark-words-requires : tie.Need-mark-words-requires
-mark-words-requires c κs = rw (c .blocks2 .ensures) (omega (arith, facts _ (accepted (c .before)) .blocks-le))
+has-words-requires : tie.Need-has-words-requires
+has-words-requires c κs = rw (c .blocks2 .ensures) (omega (arith, facts _ (accepted (c .before)) .blocks-le))
+
+-- question 12, as the code asks it
+words-are : (c : tie.After-has-words)
+    → let a = c .before .before .before .before .args in c .has-words .result ≡ q12 (blocks (a .grid)) (a .words)
+words-are c = rw (c .before .blocks2 .ensures) at (c .has-words .ensures)
 
 returns-2 : tie.Need-returns-2
-unfolding progressNumber q12
-returns-2 c =
-    let words = c .before in
-    sym (grid-yes _ _ (accepted (c .before .before .before)) ∙ ask-no 12 _ (lt-leb _ _ (rw (words .mark-words .ensures, words .before .blocks2 .ensures) at (c .if2 .taken))))
+unfolding progressNumber
+returns-2 c = rw (grid-yes _ _ (accepted (c .before .before .before)), no (words-are (c .before)) (c .if2 .taken))
 
 returns-3 : tie.Need-returns-3
-unfolding progressNumber q12
-returns-3 c =
-    let words = c .before in
-    sym (grid-yes _ _ (accepted (c .before .before .before)) ∙ ask-yes 12 _ (le-leb _ _ (rw (words .mark-words .ensures, words .before .blocks2 .ensures) at (c .if2 .left))))
+unfolding progressNumber
+returns-3 c = rw (grid-yes _ _ (accepted (c .before .before .before)), yes (words-are (c .before)) (c .if2 .left))
 
 pub marks-number-spec : {M : Type 1} → statement M
 marks-number-spec =
-    tie.close
-    (tie.spec check-requires returns blocks-requires mark-words-requires returns-2 returns-3)
+    tie.close (tie.spec check-requires returns blocks-requires has-words-requires returns-2 returns-3)

@@ -4,16 +4,25 @@ use borrow.Author.Needs.{needs}
 use mathlib.Core.Path.{_≡_, sym, _∙_}
 use mathlib.Core.Bool.{true}
 use borrow.Author.Tests.{eq-eqb, ne-eqb}
-use Rattle.grid.specs.Questions.{ask, every}
+use Rattle.common.specs.Questions.{ask}
+use Rattle.common.specs.Tests.{every}
 use Rattle.grid.specs.Sizes.{actualRows, actualColumns}
 use Rattle.grid.specs.Layout.{Block}
 use Rattle.grid.proofs.Accepted.{facts}
-use Rattle.frame.specs.Writes.{q13, q14, skipNumber, writeNumber}
-use Rattle.frame.proofs.Numbers.{Enough, skip-facts}
-use Rattle.writing.proofs.Refusals.{block-before}
-use Rattle.writing.proofs.Bounds.{DataFits, data-fits}
+use Rattle.calls.specs.Orders.{q13, q14, skipNumber, writeNumber}
+use Rattle.calls.proofs.Numbers.{Enough, skip-facts, block-before}
+use Rattle.grid.specs.Internal.BlockLayouts.{layoutOf}
+use Rattle.grid.proofs.BlockLayouts.{sound}
+use Rattle.layout.proofs.Places.{DataFits, data-fits}
 use Rattle.writing.proofs.check.write_number.Statement.{statement}
 use Rattle.writing.proofs.check.write_number.Tie as tie
+
+-- where question 6 is passed, and the function's start
+abbrev past-6 : tie.Else3 → tie.Else1
+past-6 c = c .before .before .before .before
+
+abbrev start : tie.Else3 → tie.Start
+start c = past-6 c .before .before
 
 -- past question 6
 enough : (c : tie.Else1)
@@ -28,22 +37,22 @@ unfolding skipNumber writeNumber
 asked c = block-before _ _ _ _ _ .accepts (c .before .block-number .ensures) (c .if1 .left) _
 
 -- past question 13
-rows-in : (c : tie.Else3) → let a = c .before .before .before .before .before .before .args in a .rows ≡ actualRows (a .grid) (a .block-row)
+rows-in : (c : tie.Else3) → let d = c .before .before .before .before in let a = d .before .before .args in a .rows ≡ actualRows (a .grid) (a .block-row)
 rows-in c = c .if3 .left ∙ c .before .actual-rows .ensures
 
-columns-in : (c : tie.Else4) → let a = c .before .before .before .before .before .before .before .before .args in a .columns ≡ actualColumns (a .grid) (a .block-col)
+columns-in : (c : tie.Else4) → let d = c .before .before .before .before in let a = d .before .before .before .before .args in a .columns ≡ actualColumns (a .grid) (a .block-col)
 columns-in c = c .if4 .left ∙ c .before .actual-columns .ensures
 
 shaped : (c : tie.Else4)
-    → let a = c .before .before .before .before .before .before .before .before .args in
+    → let a = start (c .before .before) .args in
     q13 (a .grid) (a .block-row) (a .block-col) (a .bands) (a .rows) (a .columns) ≡ true
 unfolding q13 every
 shaped c =
     rw (eq-eqb _ _ (c .before .before .before .before .if2 .left), eq-eqb _ _ (rows-in (c .before .before)), eq-eqb _ _ (columns-in c))
 
 -- and no product wraps
-fits : (c : tie.Else4) → let a = c .before .before .before .before .before .before .before .before .args in DataFits (a .grid) (a .block-row) (a .block-col)
-fits c = data-fits _ (facts _ (enough (c .before .before .before .before .before .before) .0 .accepted)) _ _
+fits : (c : tie.Else4) → let a = start (c .before .before) .args in DataFits (layoutOf (a .grid) (a .block-row) (a .block-col))
+fits c = let k = enough (past-6 (c .before .before)) in data-fits _ (sound _ (facts _ (k .0 .accepted)) _ _ (k .1))
 
 block-number-requires : tie.Need-block-number-requires
 block-number-requires c κs = search needs
@@ -73,7 +82,7 @@ returns-4 : tie.Need-returns-4
 unfolding q13 every
 returns-4 c =
     rw (
-      asked (c .before .before .before .before .before .before),
+      asked (past-6 (c .before .before)),
       eq-eqb _ _ (c .before .before .before .before .if2 .left),
       eq-eqb _ _ (rows-in (c .before .before)),
       ne-eqb _ _ (rw (c .before .actual-columns .ensures) at (c .if4 .taken)),
@@ -86,7 +95,7 @@ mul-if5-2 : tie.Need-mul-if5-2
 mul-if5-2 c = rw (c .before .before .before .before .if2 .left, rows-in (c .before .before), columns-in c) (record { fits = fits c .samples })
 
 sample-bytes-requires : tie.Need-sample-bytes-requires
-sample-bytes-requires c κs = enough (c .before .before .before .before .before .before) .0 .accepted
+sample-bytes-requires c κs = enough (past-6 (c .before .before)) .0 .accepted
 
 mul-if5-3 : tie.Need-mul-if5-3
 mul-if5-3 c =
@@ -97,13 +106,13 @@ returns-5 : tie.Need-returns-5
 unfolding q14
 returns-5 c =
     let k = c .before .before in
-    rw (asked (k .before .before .before .before .before .before), shaped k, ne-eqb _ _ (rw (k .before .before .before .before .if2 .left, rows-in (k .before .before), columns-in k, c .before .sample-bytes .ensures) at (c .if5 .taken)))
+    rw (asked (past-6 (k .before .before)), shaped k, ne-eqb _ _ (rw (k .before .before .before .before .if2 .left, rows-in (k .before .before), columns-in k, c .before .sample-bytes .ensures) at (c .if5 .taken)))
 
 returns-6 : tie.Need-returns-6
 unfolding q14
 returns-6 c =
     let k = c .before .before in
-    rw (asked (k .before .before .before .before .before .before), shaped k, eq-eqb _ _ (rw (k .before .before .before .before .if2 .left, rows-in (k .before .before), columns-in k, c .before .sample-bytes .ensures) at (c .if5 .left)))
+    rw (asked (past-6 (k .before .before)), shaped k, eq-eqb _ _ (rw (k .before .before .before .before .if2 .left, rows-in (k .before .before), columns-in k, c .before .sample-bytes .ensures) at (c .if5 .left)))
 
 pub write-number-spec : {M : Type 1} → statement M
 write-number-spec =

@@ -1,0 +1,3 @@
+-- The laws of the calls.
+pub mod Numbers
+pub mod WindowLaws

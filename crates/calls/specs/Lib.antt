@@ -1,0 +1,4 @@
+-- What the calls do, and what they ask before.
+pub mod Orders
+pub mod Reads
+pub mod Writes

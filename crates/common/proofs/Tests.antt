@@ -1,0 +1,96 @@
+-- Laws of tests: what they tell where they pass, and tests that go through a flag.
+-- Assumes nothing.
+use mathlib.Core.Path.{_≡_, refl, sym, subst}
+use mathlib.Core.Bool.{Bool, true, false}
+use mathlib.Core.List.{List, [], _∷_}
+use Prim.Native.Nat.{ℕ, zero, suc, _+_, _≤_, _<_}
+use native.Mathlib.Decide.{ℕ-discrete}
+use native.Mathlib.Numerals.{add-one}
+use native.Mathlib.Omega.{arith}
+use lib.ListN.{getD}
+use borrow.Author.Tests.{leb-true}
+use Rattle.common.specs.Tests.{every, within, pick, allBelow}
+
+pub true-false : {A : Type 0} → true ≡ false → A
+true-false e = absurd (let z : _≡_ {A = ℕ} 0 1 = cc in omega arith)
+
+pub pick-yes {ℓ} : {A : Type ℓ} {b : Bool} (x y : A) → b ≡ true → pick b x y ≡ x
+unfolding pick
+pick-yes x y e = rw e
+
+pub pick-no {ℓ} : {A : Type ℓ} {b : Bool} (x y : A) → b ≡ false → pick b x y ≡ y
+unfolding pick
+pick-no x y e = rw e
+
+-- two tests that say yes together are the same
+pub both-yes : (a b : Bool) → (a ≡ true → b ≡ true) → (b ≡ true → a ≡ true) → a ≡ b
+both-yes true b f h = sym (f refl)
+both-yes false true f h = h refl
+both-yes false false f h = refl
+
+pub every-at : (l : List Bool) → every l ≡ true → (k : ℕ) → getD l k true ≡ true
+unfolding every
+every-at [] e k = refl
+every-at (true ∷ l) e zero = refl
+every-at (true ∷ l) e (suc k) = every-at l e k
+every-at (false ∷ l) e k = true-false (sym e)
+
+pub every-all : (l : List Bool) → ((k : ℕ) → getD l k true ≡ true) → every l ≡ true
+unfolding every
+every-all [] f = refl
+every-all (true ∷ l) f = every-all l (λ k. f (suc k))
+every-all (false ∷ l) f = f 0
+
+pub every-last : (b : Bool) → b ≡ every (b ∷ [])
+unfolding every
+every-last true = refl
+every-last false = refl
+
+pub record Within (lo hi x : ℕ) : Type 0 where
+  pub low : lo ≤ x
+  pub high : x ≤ hi
+
+pub within-facts : (lo hi x : ℕ) → within lo hi x ≡ true → Within lo hi x
+unfolding within
+within-facts lo hi x e = let a = every-at _ e in record { low = leb-true lo x (a 0); high = leb-true x hi (a 1) }
+
+both : (a b : Bool) → a ≡ true → b ≡ true → every (a ∷ b ∷ []) ≡ true
+unfolding every
+both a b e f = rw (e, f)
+
+first-fails : (a b : Bool) → a ≡ false → every (a ∷ b ∷ []) ≡ false
+unfolding every
+first-fails a b e = rw e
+
+second-fails : (a b : Bool) → b ≡ false → every (a ∷ b ∷ []) ≡ false
+unfolding every
+second-fails true b e = rw e
+second-fails false b e = refl
+
+pub below-at : (n : ℕ) (f : ℕ → Bool) → allBelow n f ≡ true → (k : ℕ) → k < n → f k ≡ true
+unfolding allBelow
+below-at zero f e k h = absurd (omega arith)
+below-at (suc n) f e k h = go (ℕ-discrete k n) (λ l. below-at n f (every-at _ e 0) k l)
+  where
+    go : Dec (k ≡ n) → (k < n → f k ≡ true) → f k ≡ true
+    go (yes q) r = subst (λ (x : ℕ). f x ≡ true) (sym q) (every-at _ e 1)
+    go (no q) r = r (omega arith)
+
+pub all-below : (n : ℕ) (f : ℕ → Bool) → ((k : ℕ) → k < n → f k ≡ true) → allBelow n f ≡ true
+unfolding allBelow
+all-below zero f h = refl
+all-below (suc n) f h = both (allBelow n f) (f n) (all-below n f (λ k l. h k (omega arith))) (h n (omega arith))
+
+-- one more passes, as a loop's `n + 1` has it
+pub below-next : (n : ℕ) (f : ℕ → Bool) → allBelow n f ≡ true → f n ≡ true → allBelow (n + 1) f ≡ true
+unfolding allBelow
+below-next n f e h = rw add-one (both (allBelow n f) (f n) e h)
+
+pub below-fails : (n : ℕ) (f : ℕ → Bool) (k : ℕ) → k < n → f k ≡ false → allBelow n f ≡ false
+unfolding allBelow
+below-fails zero f k h e = absurd (omega arith)
+below-fails (suc n) f k h e = go (ℕ-discrete k n) (λ l. below-fails n f k l e)
+  where
+    go : Dec (k ≡ n) → (k < n → allBelow n f ≡ false) → every (allBelow n f ∷ f n ∷ []) ≡ false
+    go (yes q) r = second-fails (allBelow n f) (f n) (subst (λ (x : ℕ). f x ≡ false) q e)
+    go (no q) r = first-fails (allBelow n f) (f n) (r (omega arith))

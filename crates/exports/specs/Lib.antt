@@ -1,2 +1,0 @@
--- What the C boundary adds.
-pub mod Exports

@@ -1,0 +1,2 @@
+-- What the C boundary adds.
+pub mod Boundary

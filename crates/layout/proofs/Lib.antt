@@ -1,0 +1,5 @@
+-- The laws of `layout`.
+pub mod Order
+pub mod Listed
+pub mod Places
+pub mod Spaced

@@ -1,0 +1,4 @@
+-- The definitions of `layout`.
+pub mod Order
+pub mod Bands
+pub mod Internal

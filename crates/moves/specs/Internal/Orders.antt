@@ -1,0 +1,94 @@
+-- The order in which samples of a part are moved: pieces of some bands, rows and columns.
+-- Assumes nothing.
+use Prim.Native.Nat.{ℕ, _+_, _-_, _*_, _/_, _%_, min, _≤_, _<_}
+use mathlib.Core.Path.{_≡_}
+use mathlib.Core.Bool.{Bool, true, false}
+use Rattle.common.specs.Rounding.{ceilDiv}
+use Rattle.layout.specs.declared.BlockLayout.{BlockLayout}
+use Rattle.layout.specs.Internal.Spacing.{hasStrides, bandStride}
+use Rattle.moves.specs.declared.order.Cut.{Cut}
+use Rattle.moves.specs.declared.order.Span.{Span}
+use Rattle.moves.specs.declared.order.Piece.{Piece}
+use Rattle.moves.specs.declared.order.Order.{Order}
+use Rattle.moves.specs.declared.order.Way.{Way}
+use Rattle.moves.specs.declared.order.Way.the-variants.{Rows, Pixels, Runs}
+
+-- ---- a length in parts
+
+abbrev pub cutInto : (length most : ℕ) → Cut
+cutInto length most = record { length = length; most = most; parts = ceilDiv length most }
+
+abbrev pub partOf : Cut → ℕ → Span
+partOf c p = record { from = p * c .most; count = min (c .most) (c .length - p * c .most) }
+
+pub record RightCut (c : Cut) : Type 0 where
+  pub some : 0 < c .most
+  pub parts-are : c .parts ≡ ceilDiv (c .length) (c .most)
+
+-- a span of at least one number below `length`
+pub record SpanIn (length : ℕ) (s : Span) : Type 0 where
+  pub some : 0 < s .count
+  pub ends : s .from + s .count ≤ length
+
+pub record InSpan (s : Span) (x : ℕ) : Type 0 where
+  pub low : s .from ≤ x
+  pub high : x < s .from + s .count
+
+-- ---- pieces
+
+abbrev pub pieceCount : Order → ℕ
+pieceCount o = o .rows .parts * o .columns .parts * o .bands .parts
+
+-- bands change fastest, then columns, then rows
+abbrev pub pieceOf : Order → ℕ → Piece
+pieceOf o k =
+    record {
+      bands = partOf (o .bands) (k % o .bands .parts);
+      rows = partOf (o .rows) (k / o .bands .parts / o .columns .parts);
+      columns = partOf (o .columns) (k / o .bands .parts % o .columns .parts);
+    }
+
+pub record RightCuts (o : Order) : Type 0 where
+  pub bands-cut : RightCut (o .bands)
+  pub rows-cut : RightCut (o .rows)
+  pub columns-cut : RightCut (o .columns)
+
+pub record PieceIn (bands rows columns : ℕ) (p : Piece) : Type 0 where
+  pub in-bands : SpanIn bands (p .bands)
+  pub in-rows : SpanIn rows (p .rows)
+  pub in-columns : SpanIn columns (p .columns)
+
+pub record InPiece (p : Piece) (b r c : ℕ) : Type 0 where
+  pub in-b : InSpan (p .bands) b
+  pub in-r : InSpan (p .rows) r
+  pub in-c : InSpan (p .columns) c
+
+-- ---- ways to move a piece
+
+-- what a way asks of the layout, and of the bands and the rows that go together
+abbrev pub WayFits : Way → BlockLayout → (bands rows : ℕ) → Type 0
+WayFits Rows l bands rows = (hasStrides l ≡ true) × (bands ≡ 1)
+WayFits Pixels l bands rows =
+    (hasStrides l ≡ true) × (rows ≡ 1) × (bandStride (l .mode) l ≡ l .nbpp) × (l .nbpp % 8 ≡ 0)
+WayFits Runs l bands rows = (rows ≡ 1) × (bands ≡ 1)
+
+-- how many bands go together pixel by pixel
+abbrev pub PixelBands : Way → (together bands : ℕ) → Type 0
+PixelBands Rows together bands = Unit {0}
+PixelBands Pixels together bands = (0 < together) × (bands ≡ together)
+PixelBands Runs together bands = Unit {0}
+
+-- a read pixel by pixel takes all bands of a list at once
+abbrev pub Listed : Way → Bool → ℕ → Span → Type 0
+Listed Rows all count bands = Unit {0}
+Listed Pixels all count bands = (all ≡ false) × (bands .from ≡ 0) × (bands .count ≡ count)
+Listed Runs all count bands = Unit {0}
+
+-- an order of so many bands, rows and columns, in which at most `together` bands are moved pixel by pixel
+pub record Chosen (l : BlockLayout) (together bands rows columns : ℕ) (o : Order) : Type 0 where
+  pub right : RightCuts o
+  pub bands-are : o .bands .length ≡ bands
+  pub rows-are : o .rows .length ≡ rows
+  pub columns-are : o .columns .length ≡ columns
+  pub way-fits : WayFits (o .way) l (o .bands .most) (o .rows .most)
+  pub pixels : PixelBands (o .way) together (o .bands .most)

@@ -1,0 +1,2 @@
+-- The definitions of `moves`.
+pub mod Internal

@@ -1,0 +1,2 @@
+-- The program's block fits.
+pub mod PlacedFits

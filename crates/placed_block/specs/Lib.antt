@@ -1,0 +1,2 @@
+-- The layout of the program's block.
+pub mod Placed

@@ -1,4 +1,0 @@
--- The shared movement of samples.
-pub mod Parts
-pub mod Lines
-pub mod Blocks

@@ -1,2 +1,0 @@
--- The definitions of `writing`.
-pub mod Writable
