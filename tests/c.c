@@ -1,5 +1,5 @@
-/* Calls the library from C, on document 01's figures. Each buffer is of exact size and on the heap, so that valgrind sees
-   a byte read or written beside it. Prints what failed; exits 0 if nothing did. */
+/* Calls the library from C, on document 01's figures. Each buffer is of exact size and on the heap, so that valgrind
+   sees a byte read or written beside it. Prints what failed; exits 0 if nothing did. */
 #include "gezdunar.h"
 #include <stdio.h>
 #include <stdlib.h>
@@ -29,7 +29,7 @@ static void *copy_of(const void *bytes, size_t n) {
 #define LENT(type, ...) ((type *)copy_of((const type[]){__VA_ARGS__}, sizeof((const type[]){__VA_ARGS__})))
 
 /* Picture 3 rows by 5 columns, blocks 2 rows by 4 columns, 2 bands, NBPP 8. */
-#define SMALL(mode) 3, 5, 2, 8, mode, 4, 2, 2, 2
+static struct gezdunar_grid small(uint8_t mode) { return gezdunar_grid(3, 5, 2, 8, mode, 2, 4); }
 
 /* The bytes 0, 1, 2 and so on. */
 static const uint8_t *counting(size_t n) {
@@ -48,6 +48,40 @@ static bool refused(struct gezdunar_shape s, uint32_t number) {
 
 static bool pair(const uint8_t *out, uint8_t first, uint8_t second) { return out[0] == first && out[1] == second; }
 
+static void version_and_texts(void) {
+    check("version 0.2.0", GEZDUNAR_VERSION == 2000);
+    check("the header and the archive belong together", gezdunar_version() == GEZDUNAR_VERSION);
+    check("accepted in words", strcmp(gezdunar_refusal_text(GEZDUNAR_ACCEPTED), "accepted") == 0);
+    check("7 in words", strcmp(gezdunar_refusal_text(7), "the image ends before the block does") == 0);
+    check("99 in words", strcmp(gezdunar_refusal_text(GEZDUNAR_NO_MODE), "the mode is none of B, P, R and S") == 0);
+    const char *unknown = gezdunar_refusal_text(23);
+    check("an unknown number in words", strcmp(unknown, "refused with a number that has no name here") == 0);
+    for (uint32_t n = 0; n < 100; n++) {
+        bool is_named = n <= 22 || n == 99;
+        check("every number has words", is_named == (strcmp(gezdunar_refusal_text(n), unknown) != 0));
+    }
+}
+
+static bool same_grid(struct gezdunar_grid a, struct gezdunar_grid b) {
+    return a.nrows == b.nrows && a.ncols == b.ncols && a.bands == b.bands && a.nbpp == b.nbpp && a.imode == b.imode
+        && a.nppbh == b.nppbh && a.nppbv == b.nppbv && a.nbpr == b.nbpr && a.nbpc == b.nbpc;
+}
+
+static void grids(void) {
+    struct gezdunar_grid grid = {
+        .nrows = 7, .ncols = 10, .bands = 3, .nbpp = 12, .imode = 'R', .nppbh = 4, .nppbv = 2, .nbpr = 3, .nbpc = 4};
+    check("maker", same_grid(gezdunar_grid(7, 10, 3, 12, 'R', 2, 4), grid) && gezdunar_grid_check(grid) == 0);
+    grid.nbpr = 2;
+    check("NBPR that does not follow", gezdunar_grid_check(grid) == GEZDUNAR_BLOCK_COUNTS);
+    grid = gezdunar_grid(7, 10, 3, 12, 'Q', 0, 4);
+    check("a block side 0", grid.imode == 'Q' && grid.nppbv == 0 && grid.nbpr == 3 && grid.nbpc == 0);
+    check("no mode, before question 1", gezdunar_grid_check(grid) == GEZDUNAR_NO_MODE);
+    check("limits", gezdunar_grid_check(gezdunar_grid(7, 10, 3, 12, 'P', 0, 4)) == GEZDUNAR_LIMITS);
+    check("width", gezdunar_grid_check(gezdunar_grid(7, 10, 3, 17, 'P', 2, 4)) == GEZDUNAR_WIDTH);
+    grid = gezdunar_grid(UINT32_MAX, UINT32_MAX, 1, 8, 'B', 1, 2);
+    check("the largest sides", grid.nbpr == 0x80000000 && grid.nbpc == UINT32_MAX);
+}
+
 /* Block (1,1) in each mode. */
 static void figures_a_to_d(void) {
     static const struct { const char *name; uint8_t mode, first, second; } figures[4] = {
@@ -56,7 +90,8 @@ static void figures_a_to_d(void) {
     const uint32_t *none = copy_of(NULL, 0);
     for (int i = 0; i < 4; i++) {
         uint8_t *out = LENT(uint8_t, 0xAA, 0xAA);
-        struct gezdunar_shape s = gezdunar_decode_block(image, 64, SMALL(figures[i].mode), 1, 1, 0, true, none, 0, out, 2);
+        const struct gezdunar_grid grid = small(figures[i].mode);
+        struct gezdunar_shape s = gezdunar_decode_block(image, 64, grid, 1, 1, 0, true, none, 0, out, 2);
         check(figures[i].name, has_shape(s, 2, 1, 1) && pair(out, figures[i].first, figures[i].second));
     }
 }
@@ -65,19 +100,19 @@ static void figures_e_to_j(void) {
     uint8_t *out = LENT(uint8_t, 0xAA, 0xAA), *kept = LENT(uint8_t, 0xAA, 0xAA), *empty = copy_of(NULL, 0);
     const uint32_t *twice = LENT(uint32_t, 1, 1), *high = LENT(uint32_t, 2), *none = copy_of(NULL, 0);
     const uint8_t *image = counting(64);
-    struct gezdunar_shape s = gezdunar_decode_block(counting(50), 50, SMALL('P'), 1, 1, 0, true, high, 1, out, 2);
+    struct gezdunar_shape s = gezdunar_decode_block(counting(50), 50, small('P'), 1, 1, 0, true, high, 1, out, 2);
     check("figure e", has_shape(s, 2, 1, 1) && pair(out, 48, 49));
-    s = gezdunar_decode_block(counting(49), 49, SMALL('P'), 1, 1, 0, true, high, 1, kept, 2);
+    s = gezdunar_decode_block(counting(49), 49, small('P'), 1, 1, 0, true, high, 1, kept, 2);
     check("figure f", refused(s, 7));
-    s = gezdunar_decode_block(image, 64, SMALL('P'), 2, 0, 0, true, high, 1, kept, 2);
+    s = gezdunar_decode_block(image, 64, small('P'), 2, 0, 0, true, high, 1, kept, 2);
     check("figure g", refused(s, 6));
-    s = gezdunar_decode_block(image, 64, SMALL('P'), 1, 1, 0, false, twice, 2, out, 2);
+    s = gezdunar_decode_block(image, 64, small('P'), 1, 1, 0, false, twice, 2, out, 2);
     check("figure h", has_shape(s, 2, 1, 1) && pair(out, 49, 49));
-    s = gezdunar_decode_block(image, 64, SMALL('P'), 1, 1, 0, false, high, 1, kept, 2);
+    s = gezdunar_decode_block(image, 64, small('P'), 1, 1, 0, false, high, 1, kept, 2);
     check("figure i", refused(s, 8));
-    s = gezdunar_decode_block(image, 64, SMALL('P'), 1, 1, 0, false, none, 0, empty, 0);
+    s = gezdunar_decode_block(image, 64, small('P'), 1, 1, 0, false, none, 0, empty, 0);
     check("figure j", has_shape(s, 0, 1, 1));
-    s = gezdunar_decode_block(image, 64, SMALL('Q'), 1, 1, 0, true, none, 0, kept, 2);
+    s = gezdunar_decode_block(image, 64, small('Q'), 1, 1, 0, true, none, 0, kept, 2);
     check("no mode", refused(s, 99));
     check("a refused read writes nothing", pair(kept, 0xAA, 0xAA));
 }
@@ -85,34 +120,33 @@ static void figures_e_to_j(void) {
 static void reads(void) {
     const uint8_t *image = counting(64);
     const uint32_t *none = copy_of(NULL, 0);
-    check("grid", gezdunar_grid_check(SMALL('S')) == 0 && gezdunar_grid_check(3, 5, 2, 17, 'B', 4, 2, 2, 2) == 2);
-    struct gezdunar_sizes z = gezdunar_grid_sizes(SMALL('S'));
-    check("sizes", z.number == 0 && z.sample_bytes == 1 && z.band_bytes == 8 && z.block_bytes == 16 && z.image_bytes == 64
-        && z.blocks == 4 && z.mark_words == 1);
-    check("no sizes", gezdunar_grid_sizes(SMALL('Q')).number == 99);
-    struct gezdunar_place p = gezdunar_whole_block(image, 64, SMALL('R'), 1, 0);
+    check("grid", gezdunar_grid_check(small('S')) == 0 && gezdunar_grid_check(small('Q')) == 99);
+    struct gezdunar_sizes z = gezdunar_grid_sizes(small('S'));
+    check("sizes", z.number == 0 && z.sample_bytes == 1 && z.band_bytes == 8 && z.block_bytes == 16);
+    check("more sizes", z.image_bytes == 64 && z.blocks == 4 && z.mark_words == 1);
+    check("no sizes", gezdunar_grid_sizes(small('Q')).number == 99);
+    struct gezdunar_place p = gezdunar_whole_block(image, 64, small('R'), 1, 0);
     check("whole block", p.number == 0 && p.start == 32 && p.length == 16);
-    p = gezdunar_whole_block(image, 64, SMALL('S'), 1, 0);
+    p = gezdunar_whole_block(image, 64, small('S'), 1, 0);
     check("whole block in S", p.number == 0 && p.start == 0 && p.length == 0);
     uint8_t *window = LENT(uint8_t, 0, 0, 0, 0);
-    struct gezdunar_shape s = gezdunar_read_window(image, 64, SMALL('B'), 1, 3, 1, 2, true, none, 0, window, 4);
+    struct gezdunar_shape s = gezdunar_read_window(image, 64, small('B'), 1, 3, 1, 2, true, none, 0, window, 4);
     check("window", has_shape(s, 2, 1, 2) && pair(window, 7, 20) && pair(window + 2, 15, 28));
 }
 
 /* Writes one row of n samples into a started image, and reads it again. */
 static bool row_is_packed(uint32_t nbpp, uint32_t n, const uint8_t *data, size_t data_length, const uint8_t *packed,
-                          size_t packed_length) {
-    uint8_t *image = copy_of(packed, packed_length), *out = copy_of(data, data_length);
+                          size_t size) {
+    uint8_t *image = copy_of(packed, size), *out = copy_of(data, data_length);
     uint64_t *marks = LENT(uint64_t, ~(uint64_t)0);
     const uint32_t *none = copy_of(NULL, 0);
-    memset(image, 0xFF, packed_length);
+    memset(image, 0xFF, size);
     memset(out, 0xFF, data_length);
-    uint32_t start = gezdunar_start(image, packed_length, marks, 1, 1, n, 1, nbpp, 'B', n, 1, 1, 1).number;
-    uint32_t write = gezdunar_encode_block(image, packed_length, marks, 1, 1, n, 1, nbpp, 'B', n, 1, 1, 1, 0, 0, 1, 1, n,
-                                           data, data_length).number;
-    struct gezdunar_shape s = gezdunar_decode_block(image, packed_length, 1, n, 1, nbpp, 'B', n, 1, 1, 1, 0, 0, 0, true,
-                                                    none, 0, out, data_length);
-    return start == 0 && write == 0 && *marks == 1 && memcmp(image, packed, packed_length) == 0 && has_shape(s, 1, 1, n)
+    const struct gezdunar_grid row = gezdunar_grid(1, n, 1, nbpp, 'B', 1, n);
+    uint32_t start = gezdunar_start(image, size, marks, 1, row).number;
+    uint32_t write = gezdunar_encode_block(image, size, marks, 1, row, 0, 0, 1, 1, n, data, data_length).number;
+    struct gezdunar_shape s = gezdunar_decode_block(image, size, row, 0, 0, 0, true, none, 0, out, data_length);
+    return start == 0 && write == 0 && *marks == 1 && memcmp(image, packed, size) == 0 && has_shape(s, 1, 1, n)
         && memcmp(out, data, data_length) == 0;
 }
 
@@ -128,17 +162,18 @@ static void writes(void) {
     uint8_t *image = LENT(uint8_t, 0xFF, 0xFF, 0xFF, 0xFF), *small = LENT(uint8_t, 0xFF, 0xFF);
     uint64_t *marks = LENT(uint64_t, ~(uint64_t)0);
     const uint8_t *data = LENT(uint8_t, 5, 9), *wide = LENT(uint8_t, 0xF1, 0x23);
-    check("start", gezdunar_start(image, 4, marks, 1, 2, 3, 1, 4, 'B', 2, 2, 2, 1).number == 0);
-    check("write", gezdunar_encode_block(image, 4, marks, 1, 2, 3, 1, 4, 'B', 2, 2, 2, 1, 0, 1, 1, 2, 1, data, 2).number == 0);
+    const struct gezdunar_grid grid = gezdunar_grid(2, 3, 1, 4, 'B', 2, 2), one = gezdunar_grid(1, 1, 1, 12, 'P', 1, 1);
+    check("start", gezdunar_start(image, 4, marks, 1, grid).number == 0);
+    check("write", gezdunar_encode_block(image, 4, marks, 1, grid, 0, 1, 1, 2, 1, data, 2).number == 0);
     check("figure m", image[0] == 0 && image[1] == 0 && image[2] == 0x59 && image[3] == 0);
-    struct gezdunar_answer a = gezdunar_finalize(image, 4, marks, 1, 2, 3, 1, 4, 'B', 2, 2, 2, 1);
+    struct gezdunar_answer a = gezdunar_finalize(image, 4, marks, 1, grid);
     check("hole", a.number == 15 && a.first == 0 && a.second == 0);
-    check("skip", gezdunar_skip_block(image, 4, marks, 1, 2, 3, 1, 4, 'B', 2, 2, 2, 1, 0, 0).number == 0);
-    a = gezdunar_progress(marks, 1, 2, 3, 1, 4, 'B', 2, 2, 2, 1);
+    check("skip", gezdunar_skip_block(image, 4, marks, 1, grid, 0, 0).number == 0);
+    a = gezdunar_progress(marks, 1, grid);
     check("progress", a.number == 0 && a.first == 2);
-    check("finish", gezdunar_finalize(image, 4, marks, 1, 2, 3, 1, 4, 'B', 2, 2, 2, 1).number == 0);
-    check("start", gezdunar_start(small, 2, marks, 1, 1, 1, 1, 12, 'P', 1, 1, 1, 1).number == 0);
-    check("write", gezdunar_encode_block(small, 2, marks, 1, 1, 1, 1, 12, 'P', 1, 1, 1, 1, 0, 0, 1, 1, 1, wide, 2).number == 0);
+    check("finish", gezdunar_finalize(image, 4, marks, 1, grid).number == 0);
+    check("start", gezdunar_start(small, 2, marks, 1, one).number == 0);
+    check("write", gezdunar_encode_block(small, 2, marks, 1, one, 0, 0, 1, 1, 1, wide, 2).number == 0);
     check("figure k, sample F123", pair(small, 0x12, 0x30));
 }
 
@@ -148,21 +183,22 @@ static void masks(void) {
     const uint64_t *marks = LENT(uint64_t, 1);
     uint32_t *offsets = LENT(uint32_t, 7, 7), *none = copy_of(NULL, 0);
     uint8_t *table = copy_of((const uint8_t[18]){0}, 18);
-    struct gezdunar_parsed m = gezdunar_mask_from_marks(marks, 1, 1, 2, 1, 8, 'B', 1, 1, 2, 1, offsets, 2);
+    const struct gezdunar_grid grid = gezdunar_grid(1, 2, 1, 8, 'B', 1, 1);
+    struct gezdunar_parsed m = gezdunar_mask_from_marks(marks, 1, grid, offsets, 2);
     check("mask from marks", m.number == 0 && m.used == 2 && m.mask.block_mask_record_length == 4 && offsets[0] == 0
         && offsets[1] == 0xFFFFFFFF);
-    struct gezdunar_written w = gezdunar_mask_write(1, 2, 1, 8, 'B', 1, 1, 2, 1, 4, 0, 0, 0, offsets, 2, none, 0, table, 18);
+    struct gezdunar_written w = gezdunar_mask_write(grid, 4, 0, 0, 0, offsets, 2, none, 0, table, 18);
     check("figure n", w.number == 0 && w.bytes == 18 && memcmp(table, paper, 18) == 0);
-    m = gezdunar_mask_parse(table, 18, 1, 2, 1, 8, 'B', 1, 1, 2, 1);
+    m = gezdunar_mask_parse(table, 18, grid);
     check("parse", m.number == 0 && m.used == 18 && m.mask.image_data_offset == 18);
-    check("short table", gezdunar_mask_parse(copy_of(table, 17), 17, 1, 2, 1, 8, 'B', 1, 1, 2, 1).number == 19);
-    struct gezdunar_present h = gezdunar_has_block(table, 18, 1, 2, 1, 8, 'B', 1, 1, 2, 1, 0, 0, 0);
+    check("short table", gezdunar_mask_parse(copy_of(table, 17), 17, grid).number == 19);
+    struct gezdunar_present h = gezdunar_has_block(table, 18, grid, 0, 0, 0);
     check("present", h.number == 0 && h.present);
-    h = gezdunar_has_block(table, 18, 1, 2, 1, 8, 'B', 1, 1, 2, 1, 0, 1, 0);
+    h = gezdunar_has_block(table, 18, grid, 0, 1, 0);
     check("empty", h.number == 0 && !h.present);
-    struct gezdunar_block_offset o = gezdunar_get_block_offset(table, 18, 1, 2, 1, 8, 'B', 1, 1, 2, 1, 0, 0, 0);
+    struct gezdunar_block_offset o = gezdunar_get_block_offset(table, 18, grid, 0, 0, 0);
     check("offset", o.number == 0 && o.given && o.offset == 0);
-    o = gezdunar_get_block_offset(table, 18, 1, 2, 1, 8, 'B', 1, 1, 2, 1, 0, 1, 0);
+    o = gezdunar_get_block_offset(table, 18, grid, 0, 1, 0);
     check("no offset", o.number == 0 && !o.given);
 }
 
@@ -171,14 +207,64 @@ static void reorderings(void) {
     const uint32_t *second = LENT(uint32_t, 1);
     uint8_t *bands = LENT(uint8_t, 0, 0, 0, 0), *back = LENT(uint8_t, 0, 0, 0, 0), *one = LENT(uint8_t, 0, 0);
     struct gezdunar_reordered r = gezdunar_to_band_sequential(pixels, 4, 'P', 1, 2, 2, 1, bands, 4);
-    check("to", r.number == 0 && r.bands == 2 && r.bytes == 4 && bands[0] == 1 && bands[1] == 3 && bands[2] == 2 && bands[3] == 4);
+    check("to", r.number == 0 && r.bands == 2 && r.bytes == 4 && pair(bands, 1, 3) && pair(bands + 2, 2, 4));
     r = gezdunar_from_band_sequential(bands, 4, 'P', 1, 2, 2, 1, back, 4);
     check("from", r.number == 0 && memcmp(back, pixels, 4) == 0);
     r = gezdunar_fused_bip_to_bsq(pixels, 4, 1, 2, 2, 1, false, second, 1, one, 2);
     check("listed", r.number == 0 && r.bands == 1 && r.bytes == 2 && one[0] == 2 && one[1] == 4);
 }
 
+/* Every slice of every call null, with length 0. */
+static void null_with_length_0(void) {
+    const struct gezdunar_grid g = small('P');
+    uint8_t *image = (uint8_t *)counting(64);
+    uint64_t *marks = LENT(uint64_t, 0);
+    check("null: decode, image", refused(gezdunar_decode_block(NULL, 0, g, 1, 1, 0, true, NULL, 0, NULL, 0), 7));
+    struct gezdunar_shape s = gezdunar_decode_block(image, 64, g, 1, 1, 0, false, NULL, 0, NULL, 0);
+    check("null: decode, list", has_shape(s, 0, 1, 1));
+    check("null: decode, out", refused(gezdunar_decode_block(image, 64, g, 1, 1, 0, true, NULL, 0, NULL, 0), 9));
+    check("null: whole block", gezdunar_whole_block(NULL, 0, g, 1, 1).number == 7);
+    check("null: window, image", refused(gezdunar_read_window(NULL, 0, g, 1, 1, 1, 1, true, NULL, 0, NULL, 0), 7));
+    s = gezdunar_read_window(image, 64, g, 1, 1, 1, 1, false, NULL, 0, NULL, 0);
+    check("null: window, list", has_shape(s, 0, 1, 1));
+    check("null: window, out", refused(gezdunar_read_window(image, 64, g, 1, 1, 1, 1, true, NULL, 0, NULL, 0), 9));
+    check("null: start", gezdunar_start(NULL, 0, NULL, 0, g).number == 11);
+    check("null: start, marks", gezdunar_start(image, 64, NULL, 0, g).number == 12);
+    check("null: encode", gezdunar_encode_block(NULL, 0, NULL, 0, g, 1, 1, 2, 1, 1, NULL, 0).number == 11);
+    check("null: encode, marks", gezdunar_encode_block(image, 64, NULL, 0, g, 1, 1, 2, 1, 1, NULL, 0).number == 12);
+    check("null: encode, data", gezdunar_encode_block(image, 64, marks, 1, g, 1, 1, 2, 1, 1, NULL, 0).number == 14);
+    check("null: skip", gezdunar_skip_block(NULL, 0, NULL, 0, g, 1, 1).number == 11);
+    check("null: skip, marks", gezdunar_skip_block(image, 64, NULL, 0, g, 1, 1).number == 12);
+    check("null: progress", gezdunar_progress(NULL, 0, g).number == 12);
+    check("null: finalize", gezdunar_finalize(NULL, 0, NULL, 0, g).number == 11);
+    check("null: finalize, marks", gezdunar_finalize(image, 64, NULL, 0, g).number == 12);
+}
+
+static void null_tables_with_length_0(void) {
+    const struct gezdunar_grid g = small('P');
+    const uint64_t *marks = LENT(uint64_t, 0);
+    uint8_t *out = copy_of((const uint8_t[10]){0}, 10);
+    check("null: parse", gezdunar_mask_parse(NULL, 0, g).number == 16);
+    check("null: has block", gezdunar_has_block(NULL, 0, g, 0, 0, 0).number == 16);
+    check("null: block offset", gezdunar_get_block_offset(NULL, 0, g, 0, 0, 0).number == 16);
+    check("null: mask write, out", gezdunar_mask_write(g, 0, 0, 0, 0, NULL, 0, NULL, 0, NULL, 0).number == 9);
+    struct gezdunar_written w = gezdunar_mask_write(g, 0, 0, 0, 0, NULL, 0, NULL, 0, out, 10);
+    check("null: mask write, offsets", w.number == 0 && w.bytes == 10 && out[3] == 10);
+    check("null: mask from marks", gezdunar_mask_from_marks(NULL, 0, g, NULL, 0).number == 12);
+    check("null: mask from marks, out", gezdunar_mask_from_marks(marks, 1, g, NULL, 0).number == 9);
+    struct gezdunar_reordered r = gezdunar_to_band_sequential(NULL, 0, 'P', 0, 2, 2, 1, NULL, 0);
+    check("null: to", r.number == 0 && r.bytes == 0);
+    r = gezdunar_from_band_sequential(NULL, 0, 'R', 2, 0, 2, 1, NULL, 0);
+    check("null: from", r.number == 0 && r.bytes == 0);
+    r = gezdunar_fused_bip_to_bsq(NULL, 0, 2, 2, 0, 1, true, NULL, 0, NULL, 0);
+    check("null: fused", r.number == 0 && r.bytes == 0);
+    r = gezdunar_fused_bip_to_bsq(counting(4), 4, 2, 1, 2, 1, false, NULL, 0, NULL, 0);
+    check("null: fused, list", r.number == 0 && r.bands == 0 && r.bytes == 0);
+}
+
 int main(void) {
+    version_and_texts();
+    grids();
     figures_a_to_d();
     figures_e_to_j();
     reads();
@@ -186,6 +272,8 @@ int main(void) {
     writes();
     masks();
     reorderings();
+    null_with_length_0();
+    null_tables_with_length_0();
     if (failures == 0) printf("c: all passed\n");
     return failures != 0;
 }

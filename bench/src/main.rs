@@ -2,6 +2,7 @@
 //!
 //!     bench [WORD...]     only the rows whose names hold every word
 //!     bench --large       only the rows of more than 32,000,000 bytes
+//!     bench --page        the page docs/PERFORMANCE.md
 
 mod blocks;
 mod buffers;
@@ -10,6 +11,7 @@ mod masks;
 mod measure;
 mod moves;
 mod original;
+mod page;
 mod reorderings;
 mod report;
 mod rows;
@@ -29,18 +31,17 @@ fn is_wanted(row: &Row, words: &[String]) -> bool {
     })
 }
 
-/// glibc's malloc keeps released memory of up to the largest size that it saw released, at most 32 MB. Shown that size at
-/// the start, the original's times do not depend on the rows before.
+/// glibc's malloc keeps released memory of up to the largest size that it saw released, at most 32 MB. Shown that size
+/// at the start, the original's times do not depend on the rows before.
 fn settle_malloc() {
     release(vec![0u8; 33_000_000]);
 }
 
-fn main() {
-    settle_malloc();
-    let words: Vec<String> = std::env::args().skip(1).collect();
+/// The tables of the rows that are wanted; then the rows that miss their target.
+fn print_tables(words: &[String]) {
     let mut missed = Vec::new();
     for (title, rows) in rows::sections() {
-        let wanted: Vec<Row> = rows.into_iter().filter(|row| is_wanted(row, &words)).collect();
+        let wanted: Vec<Row> = rows.into_iter().filter(|row| is_wanted(row, words)).collect();
         if wanted.is_empty() {
             continue;
         }
@@ -55,5 +56,14 @@ fn main() {
     }
     if !words.iter().any(|word| word == "--large") {
         println!("{}", report::missed(&missed));
+    }
+}
+
+fn main() {
+    settle_malloc();
+    let words: Vec<String> = std::env::args().skip(1).collect();
+    match words.as_slice() {
+        [word] if word == "--page" => page::print(),
+        _ => print_tables(&words),
     }
 }

@@ -26,8 +26,8 @@ const STAND_INS: [(&str, &str); 5] = [
 
 fn main() {
     println!("cargo:rerun-if-env-changed=OSML_SRC");
-    let sources = env::var("OSML_SRC")
-        .expect("set OSML_SRC to the absolute path of the directory that holds src/error.rs.txt");
+    let sources =
+        env::var("OSML_SRC").expect("set OSML_SRC to the absolute path of the directory that holds src/error.rs.txt");
     let out = PathBuf::from(env::var("OUT_DIR").expect("cargo sets OUT_DIR"));
     fs::create_dir_all(out.join("jbp/image")).expect("OUT_DIR can be written");
 
@@ -51,7 +51,5 @@ fn place(from: &Path, to: &Path) -> Vec<u8> {
 }
 
 fn fnv(bytes: &[u8]) -> u64 {
-    bytes.iter().fold(0xcbf2_9ce4_8422_2325, |sum, &byte| {
-        (sum ^ u64::from(byte)).wrapping_mul(0x0000_0100_0000_01b3)
-    })
+    bytes.iter().fold(0xcbf2_9ce4_8422_2325, |sum, &byte| (sum ^ u64::from(byte)).wrapping_mul(0x0000_0100_0000_01b3))
 }

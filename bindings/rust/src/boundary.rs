@@ -1,7 +1,28 @@
 //! The C boundary, as `include/gezdunar.h` declares it, and a safe function for each of its calls: slices cross as a
-//! pointer and a length, the grid as its nine numbers. All that is unsafe stands here.
+//! pointer and a length, the grid as a struct of its numbers. All that is unsafe stands here.
 
 use crate::{Bands, Grid, ImageDataMask, InterleaveMode, Window};
+
+/// The grid's numbers, with IMODE as its letter's byte.
+#[repr(C)]
+pub(crate) struct GridNumbers {
+    pub nrows: u32,
+    pub ncols: u32,
+    pub bands: u32,
+    pub nbpp: u32,
+    pub imode: u8,
+    pub nppbh: u32,
+    pub nppbv: u32,
+    pub nbpr: u32,
+    pub nbpc: u32,
+}
+
+impl From<&Grid> for GridNumbers {
+    fn from(grid: &Grid) -> GridNumbers {
+        let Grid { nrows, ncols, bands, nbpp, imode, nppbh, nppbv, nbpr, nbpc } = *grid;
+        GridNumbers { nrows, ncols, bands, nbpp, imode: imode.letter(), nppbh, nppbv, nbpr, nbpc }
+    }
+}
 
 /// Sizes of a grid.
 #[repr(C)]
@@ -76,89 +97,76 @@ pub(crate) struct Reordered {
 
 #[rustfmt::skip]
 extern "C" {
-    fn gezdunar_grid_check(
-        nrows: u32, ncols: u32, bands: u32, nbpp: u32, imode: u8, nppbh: u32, nppbv: u32, nbpr: u32, nbpc: u32,
-    ) -> u32;
+    #[cfg(test)]
+    fn gezdunar_version() -> u32;
 
-    fn gezdunar_grid_sizes(
-        nrows: u32, ncols: u32, bands: u32, nbpp: u32, imode: u8, nppbh: u32, nppbv: u32, nbpr: u32, nbpc: u32,
-    ) -> Sizes;
+    fn gezdunar_grid(
+        nrows: u32, ncols: u32, bands: u32, nbpp: u32, imode: u8, nppbv: u32, nppbh: u32,
+    ) -> GridNumbers;
+
+    fn gezdunar_grid_check(grid: GridNumbers) -> u32;
+
+    fn gezdunar_grid_sizes(grid: GridNumbers) -> Sizes;
 
     fn gezdunar_decode_block(
-        image: *const u8, image_length: usize,
-        nrows: u32, ncols: u32, bands: u32, nbpp: u32, imode: u8, nppbh: u32, nppbv: u32, nbpr: u32, nbpc: u32,
+        image: *const u8, image_length: usize, grid: GridNumbers,
         block_row: u32, block_col: u32, resolution_level: u32,
         all: bool, list: *const u32, list_length: usize, out: *mut u8, out_length: usize,
     ) -> Shape;
 
     fn gezdunar_whole_block(
-        image: *const u8, image_length: usize,
-        nrows: u32, ncols: u32, bands: u32, nbpp: u32, imode: u8, nppbh: u32, nppbv: u32, nbpr: u32, nbpc: u32,
+        image: *const u8, image_length: usize, grid: GridNumbers,
         block_row: u32, block_col: u32,
     ) -> Place;
 
     fn gezdunar_read_window(
-        image: *const u8, image_length: usize,
-        nrows: u32, ncols: u32, bands: u32, nbpp: u32, imode: u8, nppbh: u32, nppbv: u32, nbpr: u32, nbpc: u32,
+        image: *const u8, image_length: usize, grid: GridNumbers,
         row: u32, column: u32, rows: u32, columns: u32,
         all: bool, list: *const u32, list_length: usize, out: *mut u8, out_length: usize,
     ) -> Shape;
 
     fn gezdunar_start(
-        image: *mut u8, image_length: usize, marks: *mut u64, marks_length: usize,
-        nrows: u32, ncols: u32, bands: u32, nbpp: u32, imode: u8, nppbh: u32, nppbv: u32, nbpr: u32, nbpc: u32,
+        image: *mut u8, image_length: usize, marks: *mut u64, marks_length: usize, grid: GridNumbers,
     ) -> Answer;
 
     fn gezdunar_encode_block(
-        image: *mut u8, image_length: usize, marks: *mut u64, marks_length: usize,
-        nrows: u32, ncols: u32, bands: u32, nbpp: u32, imode: u8, nppbh: u32, nppbv: u32, nbpr: u32, nbpc: u32,
+        image: *mut u8, image_length: usize, marks: *mut u64, marks_length: usize, grid: GridNumbers,
         block_row: u32, block_col: u32, shape_bands: usize, shape_rows: usize, shape_columns: usize,
         data: *const u8, data_length: usize,
     ) -> Answer;
 
     fn gezdunar_skip_block(
-        image: *const u8, image_length: usize, marks: *mut u64, marks_length: usize,
-        nrows: u32, ncols: u32, bands: u32, nbpp: u32, imode: u8, nppbh: u32, nppbv: u32, nbpr: u32, nbpc: u32,
+        image: *const u8, image_length: usize, marks: *mut u64, marks_length: usize, grid: GridNumbers,
         block_row: u32, block_col: u32,
     ) -> Answer;
 
-    fn gezdunar_progress(
-        marks: *const u64, marks_length: usize,
-        nrows: u32, ncols: u32, bands: u32, nbpp: u32, imode: u8, nppbh: u32, nppbv: u32, nbpr: u32, nbpc: u32,
-    ) -> Answer;
+    fn gezdunar_progress(marks: *const u64, marks_length: usize, grid: GridNumbers) -> Answer;
 
     fn gezdunar_finalize(
-        image: *const u8, image_length: usize, marks: *const u64, marks_length: usize,
-        nrows: u32, ncols: u32, bands: u32, nbpp: u32, imode: u8, nppbh: u32, nppbv: u32, nbpr: u32, nbpc: u32,
+        image: *const u8, image_length: usize, marks: *const u64, marks_length: usize, grid: GridNumbers,
     ) -> Answer;
 
-    fn gezdunar_mask_parse(
-        table: *const u8, table_length: usize,
-        nrows: u32, ncols: u32, bands: u32, nbpp: u32, imode: u8, nppbh: u32, nppbv: u32, nbpr: u32, nbpc: u32,
-    ) -> Parsed;
+    fn gezdunar_mask_parse(table: *const u8, table_length: usize, grid: GridNumbers) -> Parsed;
 
     fn gezdunar_mask_write(
-        nrows: u32, ncols: u32, bands: u32, nbpp: u32, imode: u8, nppbh: u32, nppbv: u32, nbpr: u32, nbpc: u32,
+        grid: GridNumbers,
         block_record_length: u16, pad_record_length: u16, code_length: u16, code: u32,
         block_offsets: *const u32, block_offsets_length: usize, pad_offsets: *const u32, pad_offsets_length: usize,
         out: *mut u8, out_length: usize,
     ) -> Written;
 
     fn gezdunar_has_block(
-        table: *const u8, table_length: usize,
-        nrows: u32, ncols: u32, bands: u32, nbpp: u32, imode: u8, nppbh: u32, nppbv: u32, nbpr: u32, nbpc: u32,
+        table: *const u8, table_length: usize, grid: GridNumbers,
         block_row: u32, block_col: u32, band: u32,
     ) -> Present;
 
     fn gezdunar_get_block_offset(
-        table: *const u8, table_length: usize,
-        nrows: u32, ncols: u32, bands: u32, nbpp: u32, imode: u8, nppbh: u32, nppbv: u32, nbpr: u32, nbpc: u32,
+        table: *const u8, table_length: usize, grid: GridNumbers,
         block_row: u32, block_col: u32, band: u32,
     ) -> BlockOffset;
 
     fn gezdunar_mask_from_marks(
-        marks: *const u64, marks_length: usize,
-        nrows: u32, ncols: u32, bands: u32, nbpp: u32, imode: u8, nppbh: u32, nppbv: u32, nbpr: u32, nbpc: u32,
+        marks: *const u64, marks_length: usize, grid: GridNumbers,
         out: *mut u32, out_length: usize,
     ) -> Parsed;
 
@@ -181,33 +189,34 @@ extern "C" {
     ) -> Reordered;
 }
 
-/// The call of a function with the arguments before the grid, the grid's nine numbers and the arguments after it.
-macro_rules! on_grid {
-    ($function:ident, [$($before:expr),*], $grid:ident, [$($after:expr),*]) => {
-        $function(
-            $($before,)*
-            $grid.nrows,
-            $grid.ncols,
-            $grid.bands,
-            $grid.nbpp,
-            $grid.imode.letter(),
-            $grid.nppbh,
-            $grid.nppbv,
-            $grid.nbpr,
-            $grid.nbpc,
-            $($after,)*
-        )
-    };
+/// The version of the archive: major * 1,000,000 + minor * 1,000 + patch.
+#[cfg(test)]
+fn version() -> u32 {
+    // SAFETY: no arguments.
+    unsafe { gezdunar_version() }
+}
+
+pub(crate) fn grid(
+    nrows: u32,
+    ncols: u32,
+    bands: u32,
+    nbpp: u32,
+    imode: InterleaveMode,
+    nppbv: u32,
+    nppbh: u32,
+) -> GridNumbers {
+    // SAFETY: only numbers.
+    unsafe { gezdunar_grid(nrows, ncols, bands, nbpp, imode.letter(), nppbv, nppbh) }
 }
 
 pub(crate) fn grid_check(grid: &Grid) -> u32 {
     // SAFETY: only numbers.
-    unsafe { on_grid!(gezdunar_grid_check, [], grid, []) }
+    unsafe { gezdunar_grid_check(grid.into()) }
 }
 
 pub(crate) fn grid_sizes(grid: &Grid) -> Sizes {
     // SAFETY: only numbers.
-    unsafe { on_grid!(gezdunar_grid_sizes, [], grid, []) }
+    unsafe { gezdunar_grid_sizes(grid.into()) }
 }
 
 pub(crate) fn decode_block(
@@ -224,18 +233,25 @@ pub(crate) fn decode_block(
     let (out, out_length) = (out.as_mut_ptr(), out.len());
     // SAFETY: borrowed slices.
     unsafe {
-        on_grid!(
-            gezdunar_decode_block,
-            [image.as_ptr(), image.len()],
-            grid,
-            [block_row, block_col, resolution_level, all, list, list_length, out, out_length]
+        gezdunar_decode_block(
+            image.as_ptr(),
+            image.len(),
+            grid.into(),
+            block_row,
+            block_col,
+            resolution_level,
+            all,
+            list,
+            list_length,
+            out,
+            out_length,
         )
     }
 }
 
 pub(crate) fn whole_block(image: &[u8], grid: &Grid, block_row: u32, block_col: u32) -> Place {
     // SAFETY: borrowed slice.
-    unsafe { on_grid!(gezdunar_whole_block, [image.as_ptr(), image.len()], grid, [block_row, block_col]) }
+    unsafe { gezdunar_whole_block(image.as_ptr(), image.len(), grid.into(), block_row, block_col) }
 }
 
 pub(crate) fn read_window(image: &[u8], grid: &Grid, window: Window, bands: Bands<'_>, out: &mut [u8]) -> Shape {
@@ -245,18 +261,26 @@ pub(crate) fn read_window(image: &[u8], grid: &Grid, window: Window, bands: Band
     let (out, out_length) = (out.as_mut_ptr(), out.len());
     // SAFETY: borrowed slices.
     unsafe {
-        on_grid!(
-            gezdunar_read_window,
-            [image.as_ptr(), image.len()],
-            grid,
-            [row, column, rows, columns, all, list, list_length, out, out_length]
+        gezdunar_read_window(
+            image.as_ptr(),
+            image.len(),
+            grid.into(),
+            row,
+            column,
+            rows,
+            columns,
+            all,
+            list,
+            list_length,
+            out,
+            out_length,
         )
     }
 }
 
 pub(crate) fn start(image: &mut [u8], marks: &mut [u64], grid: &Grid) -> Answer {
     // SAFETY: borrowed slices.
-    unsafe { on_grid!(gezdunar_start, [image.as_mut_ptr(), image.len(), marks.as_mut_ptr(), marks.len()], grid, []) }
+    unsafe { gezdunar_start(image.as_mut_ptr(), image.len(), marks.as_mut_ptr(), marks.len(), grid.into()) }
 }
 
 pub(crate) fn encode_block(
@@ -270,11 +294,19 @@ pub(crate) fn encode_block(
 ) -> Answer {
     // SAFETY: borrowed slices.
     unsafe {
-        on_grid!(
-            gezdunar_encode_block,
-            [image.as_mut_ptr(), image.len(), marks.as_mut_ptr(), marks.len()],
-            grid,
-            [block_row, block_col, shape.bands, shape.rows, shape.columns, data.as_ptr(), data.len()]
+        gezdunar_encode_block(
+            image.as_mut_ptr(),
+            image.len(),
+            marks.as_mut_ptr(),
+            marks.len(),
+            grid.into(),
+            block_row,
+            block_col,
+            shape.bands,
+            shape.rows,
+            shape.columns,
+            data.as_ptr(),
+            data.len(),
         )
     }
 }
@@ -282,28 +314,31 @@ pub(crate) fn encode_block(
 pub(crate) fn skip_block(image: &[u8], marks: &mut [u64], grid: &Grid, block_row: u32, block_col: u32) -> Answer {
     // SAFETY: borrowed slices.
     unsafe {
-        on_grid!(
-            gezdunar_skip_block,
-            [image.as_ptr(), image.len(), marks.as_mut_ptr(), marks.len()],
-            grid,
-            [block_row, block_col]
+        gezdunar_skip_block(
+            image.as_ptr(),
+            image.len(),
+            marks.as_mut_ptr(),
+            marks.len(),
+            grid.into(),
+            block_row,
+            block_col,
         )
     }
 }
 
 pub(crate) fn progress(marks: &[u64], grid: &Grid) -> Answer {
     // SAFETY: borrowed slice.
-    unsafe { on_grid!(gezdunar_progress, [marks.as_ptr(), marks.len()], grid, []) }
+    unsafe { gezdunar_progress(marks.as_ptr(), marks.len(), grid.into()) }
 }
 
 pub(crate) fn finalize(image: &[u8], marks: &[u64], grid: &Grid) -> Answer {
     // SAFETY: borrowed slices.
-    unsafe { on_grid!(gezdunar_finalize, [image.as_ptr(), image.len(), marks.as_ptr(), marks.len()], grid, []) }
+    unsafe { gezdunar_finalize(image.as_ptr(), image.len(), marks.as_ptr(), marks.len(), grid.into()) }
 }
 
 pub(crate) fn mask_parse(table: &[u8], grid: &Grid) -> Parsed {
     // SAFETY: borrowed slice.
-    unsafe { on_grid!(gezdunar_mask_parse, [table.as_ptr(), table.len()], grid, []) }
+    unsafe { gezdunar_mask_parse(table.as_ptr(), table.len(), grid.into()) }
 }
 
 pub(crate) fn mask_write(
@@ -316,39 +351,35 @@ pub(crate) fn mask_write(
     let (out, out_length) = (out.as_mut_ptr(), out.len());
     // SAFETY: borrowed slices.
     unsafe {
-        on_grid!(
-            gezdunar_mask_write,
-            [],
-            grid,
-            [
-                mask.block_mask_record_length,
-                mask.pad_pixel_mask_record_length,
-                mask.pad_pixel_code_length,
-                mask.pad_pixel_code,
-                block_offsets.as_ptr(),
-                block_offsets.len(),
-                pad_offsets.as_ptr(),
-                pad_offsets.len(),
-                out,
-                out_length
-            ]
+        gezdunar_mask_write(
+            grid.into(),
+            mask.block_mask_record_length,
+            mask.pad_pixel_mask_record_length,
+            mask.pad_pixel_code_length,
+            mask.pad_pixel_code,
+            block_offsets.as_ptr(),
+            block_offsets.len(),
+            pad_offsets.as_ptr(),
+            pad_offsets.len(),
+            out,
+            out_length,
         )
     }
 }
 
 pub(crate) fn has_block(table: &[u8], grid: &Grid, block_row: u32, block_col: u32, band: u32) -> Present {
     // SAFETY: borrowed slice.
-    unsafe { on_grid!(gezdunar_has_block, [table.as_ptr(), table.len()], grid, [block_row, block_col, band]) }
+    unsafe { gezdunar_has_block(table.as_ptr(), table.len(), grid.into(), block_row, block_col, band) }
 }
 
 pub(crate) fn get_block_offset(table: &[u8], grid: &Grid, block_row: u32, block_col: u32, band: u32) -> BlockOffset {
     // SAFETY: borrowed slice.
-    unsafe { on_grid!(gezdunar_get_block_offset, [table.as_ptr(), table.len()], grid, [block_row, block_col, band]) }
+    unsafe { gezdunar_get_block_offset(table.as_ptr(), table.len(), grid.into(), block_row, block_col, band) }
 }
 
 pub(crate) fn mask_from_marks(marks: &[u64], grid: &Grid, out: &mut [u32]) -> Parsed {
     // SAFETY: borrowed slices.
-    unsafe { on_grid!(gezdunar_mask_from_marks, [marks.as_ptr(), marks.len()], grid, [out.as_mut_ptr(), out.len()]) }
+    unsafe { gezdunar_mask_from_marks(marks.as_ptr(), marks.len(), grid.into(), out.as_mut_ptr(), out.len()) }
 }
 
 pub(crate) fn to_band_sequential(
@@ -412,5 +443,18 @@ pub(crate) fn fused_bip_to_bsq(
             out.as_mut_ptr(),
             out.len(),
         )
+    }
+}
+
+#[cfg(test)]
+mod tests {
+    /// The crate and the archive have the same version.
+    #[test]
+    fn the_archive_belongs_to_this_crate() {
+        let part = |text: &str| text.parse::<u32>().expect("a number");
+        let major = part(env!("CARGO_PKG_VERSION_MAJOR"));
+        let minor = part(env!("CARGO_PKG_VERSION_MINOR"));
+        let patch = part(env!("CARGO_PKG_VERSION_PATCH"));
+        assert_eq!(super::version(), major * 1_000_000 + minor * 1_000 + patch);
     }
 }

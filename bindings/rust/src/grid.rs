@@ -1,10 +1,10 @@
 //! The grid record and its sizes.
 
-use crate::boundary;
+use crate::boundary::{self, GridNumbers};
 use crate::refusal::accepted;
 use crate::{InterleaveMode, Refusal};
 
-/// A picture in blocks. The fields are named as in MIL-STD-2500C.
+/// A picture in blocks. The fields have the names of MIL-STD-2500C, but for `bands`, its NBANDS or XBANDS.
 #[derive(Debug, Clone, Copy, PartialEq, Eq, Hash)]
 pub struct Grid {
     /// Rows of the picture.
@@ -60,14 +60,6 @@ fn actual(picture: u32, block: u32, index: u32) -> usize {
     picture.saturating_sub(index.saturating_mul(block)).min(block) as usize
 }
 
-/// a / b, rounded up; 0 where b is 0.
-fn ceil_div(a: u32, b: u32) -> u32 {
-    match b {
-        0 => 0,
-        _ => a.div_ceil(b),
-    }
-}
-
 impl Grid {
     /// A picture in blocks of `nppbv` rows and `nppbh` columns. NBPR and NBPC follow by rounding up; a block side of 0
     /// gives 0 blocks. Nothing is refused here, see [`check`](Grid::check).
@@ -78,8 +70,7 @@ impl Grid {
     /// assert_eq!((grid.nbpr, grid.nbpc), (2, 2));
     /// ```
     pub fn new(nrows: u32, ncols: u32, bands: u32, nbpp: u32, imode: InterleaveMode, nppbh: u32, nppbv: u32) -> Grid {
-        let nbpr = ceil_div(ncols, nppbh);
-        let nbpc = ceil_div(nrows, nppbv);
+        let GridNumbers { nbpr, nbpc, .. } = boundary::grid(nrows, ncols, bands, nbpp, imode, nppbv, nppbh);
         Grid { nrows, ncols, bands, nbpp, imode, nppbh, nppbv, nbpr, nbpc }
     }
 

@@ -1,4 +1,4 @@
-//! Uncompressed NITF 2.1 image blocks: safe calls over the proved library that `rt staticlib exports` builds.
+//! Uncompressed NITF 2.1 image blocks: safe calls over the proved library that `rt staticlib gezdunar` builds.
 //!
 //! A picture is described by a [`Grid`]. A picture's blocks are written into an image with a [`Frame`], or into lent
 //! buffers with [`start`], [`encode_block`], [`skip_block`], [`progress`] and [`finalize`]. They are read with

@@ -4,8 +4,18 @@ use gezdunar::{Grid, InterleaveMode, Refusal};
 use std::collections::HashSet;
 use std::error::Error;
 
+const HEADER: &str = include_str!("../../../include/gezdunar.h");
+
 fn known() -> Vec<u32> {
     (1..=22).chain([99]).collect()
+}
+
+/// The C header's words for a number: the text of the name that the number has there.
+fn words_of_header(number: u32) -> &'static str {
+    let mut names = HEADER.lines().filter_map(|line| line.trim().trim_end_matches(',').split_once(" = "));
+    let (name, _) = names.find(|(_, value)| *value == number.to_string()).expect("the number has a name");
+    let (_, text) = HEADER.split_once(&format!("case {name}: return \"")).expect("the name has a text");
+    text.split('"').next().unwrap_or_default()
 }
 
 #[test]
@@ -30,6 +40,18 @@ fn every_number_is_told_in_words() {
         assert!(told.insert(words), "{text} is told twice");
     }
     assert_eq!(Refusal::ImageEnds.to_string(), "7: the image ends before the block does");
+}
+
+#[test]
+fn the_header_has_the_same_words() {
+    for number in known() {
+        let refusal = Refusal::from_number(number).expect("a number other than 0");
+        let text = refusal.to_string();
+        let words = text.strip_suffix(": row 0, column 0").unwrap_or(&text);
+        assert_eq!(words, format!("{number}: {}", words_of_header(number)));
+    }
+    let unknown = Refusal::Unknown(23).to_string();
+    assert!(HEADER.contains(&format!("default: return \"{}\";", &unknown["23: ".len()..])));
 }
 
 #[test]

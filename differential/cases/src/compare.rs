@@ -71,10 +71,7 @@ pub struct Difference {
 }
 
 impl Difference {
-    fn between(
-        case: &Case,
-        answers: [(&'static str, impl Into<Option<Answer>>); 2],
-    ) -> Box<Difference> {
+    fn between(case: &Case, answers: [(&'static str, impl Into<Option<Answer>>); 2]) -> Box<Difference> {
         let answers = answers.map(|(name, answer)| (name, answer.into()));
         Box::new(Difference { case: case.clone(), answers })
     }
@@ -137,12 +134,7 @@ impl Comparison {
     }
 
     /// One case from a source. A difference is given on the smallest case found.
-    pub fn drawn(
-        &mut self,
-        kind: Kind,
-        from: &mut Source,
-        size: &Size,
-    ) -> Result<(), Box<Difference>> {
+    pub fn drawn(&mut self, kind: Kind, from: &mut Source, size: &Size) -> Result<(), Box<Difference>> {
         let Some(case) = generate(kind, from, size) else {
             return Ok(());
         };

@@ -24,13 +24,7 @@ fn samples(shape: [u64; 3], bytes: &[u8]) -> Answer {
 }
 
 /// One write of one band to one block, and the image and marks after it.
-fn write(
-    grid: Grid,
-    block: (u32, u32),
-    [rows, columns]: [u32; 2],
-    data: &[u8],
-    image: &[u8],
-) -> (Case, Answer) {
+fn write(grid: Grid, block: (u32, u32), [rows, columns]: [u32; 2], data: &[u8], image: &[u8]) -> (Case, Answer) {
     let (row, column) = block;
     let call = Call::Write { row, column, shape: [1, rows, columns], data: data.to_vec() };
     let mark = 1u64 << (row * grid.nbpr + column);

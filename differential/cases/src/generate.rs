@@ -102,13 +102,16 @@ fn band_list(bands: u32, from: &mut Source, size: &Size) -> Option<Vec<u32>> {
     }
     let count = 1 + from.below(size.list);
     let outside = refusal(from, size, 16).then(|| from.below(count));
-    let list = (0..count).map(|i| {
-        if outside == Some(i) {
-            bands + from.number(3)
-        } else {
-            from.number(u64::from(bands.max(1)))
-        }
-    });
+    let list =
+        (0..count).map(
+            |i| {
+                if outside == Some(i) {
+                    bands + from.number(3)
+                } else {
+                    from.number(u64::from(bands.max(1)))
+                }
+            },
+        );
     Some(list.collect())
 }
 
@@ -154,17 +157,14 @@ fn read(grid: Grid, from: &mut Source, size: &Size) -> Case {
     let (row, column) = block(&grid, from, size);
     let bands = band_list(grid.bands, from, size);
     let level = if refusal(from, size, 24) { 1 + from.number(3) } else { 0 };
-    let least =
-        if inside(&grid, (row, column)) { layout::block_end(&grid, row, column) } else { 0 };
+    let least = if inside(&grid, (row, column)) { layout::block_end(&grid, row, column) } else { 0 };
     let image = image(&grid, least, from, size);
     Case::Read { grid, image, row, column, level, bands }
 }
 
 fn whole(grid: Grid, from: &mut Source, size: &Size) -> Case {
     let (row, column) = block(&grid, from, size);
-    let end = (layout::block_index(&grid, row, column) + 1)
-        * u64::from(grid.bands)
-        * layout::band_bytes(&grid);
+    let end = (layout::block_index(&grid, row, column) + 1) * u64::from(grid.bands) * layout::band_bytes(&grid);
     Case::Whole { grid, image: image(&grid, end, from, size), row, column }
 }
 

@@ -42,13 +42,7 @@ pub struct Grid {
 
 impl Grid {
     /// A picture of `nrows` x `ncols` in blocks of `nppbv` x `nppbh`.
-    pub fn new(
-        [nrows, ncols]: [u32; 2],
-        bands: u32,
-        nbpp: u32,
-        mode: Mode,
-        [nppbv, nppbh]: [u32; 2],
-    ) -> Grid {
+    pub fn new([nrows, ncols]: [u32; 2], bands: u32, nbpp: u32, mode: Mode, [nppbv, nppbh]: [u32; 2]) -> Grid {
         let (nbpr, nbpc) = (ncols.div_ceil(nppbh), nrows.div_ceil(nppbv));
         Grid { nrows, ncols, bands, nbpp, mode, nppbh, nppbv, nbpr, nbpc }
     }
@@ -65,7 +59,5 @@ impl Grid {
 }
 
 /// The accepted values of NBPP.
-pub const WIDTHS: [u32; 29] = [
-    1, 2, 3, 4, 5, 6, 7, 8, 9, 10, 11, 12, 13, 14, 15, 16, 24, 25, 26, 27, 28, 29, 30, 31, 32, 40,
-    48, 56, 64,
-];
+pub const WIDTHS: [u32; 29] =
+    [1, 2, 3, 4, 5, 6, 7, 8, 9, 10, 11, 12, 13, 14, 15, 16, 24, 25, 26, 27, 28, 29, 30, 31, 32, 40, 48, 56, 64];

@@ -25,16 +25,9 @@ fn write(from: &mut Source, grid: Grid, block: (u32, u32)) -> Case {
     let mut calls = Vec::new();
     for (row, column) in [(0, 0), (0, 1), (1, 0), (1, 1)] {
         if (row, column) == block {
-            let (rows, columns) =
-                (layout::actual_rows(&grid, row), layout::actual_columns(&grid, column));
-            let data =
-                bytes(from, u64::from(grid.bands) * rows * columns * layout::sample_bytes(&grid));
-            calls.push(Call::Write {
-                row,
-                column,
-                shape: [grid.bands, rows as u32, columns as u32],
-                data,
-            });
+            let (rows, columns) = (layout::actual_rows(&grid, row), layout::actual_columns(&grid, column));
+            let data = bytes(from, u64::from(grid.bands) * rows * columns * layout::sample_bytes(&grid));
+            calls.push(Call::Write { row, column, shape: [grid.bands, rows as u32, columns as u32], data });
         } else {
             calls.push(Call::Skip { row, column });
         }
@@ -90,29 +83,22 @@ fn parallel(makers: &mut Makers) {
     }
 }
 
-/// Several bands whose pixel is longer than 64 bytes, and rows of so many bands; blocks at the lower right lack rows and columns.
+/// Several bands whose pixel is longer than 64 bytes, and rows of so many bands; blocks at the lower right lack rows and
+/// columns.
 fn long_pixels(makers: &mut Makers) {
     for mode in Mode::ALL {
         for nbpp in [7, 8, 12, 16, 24, 32, 40, 64] {
             for bands in [16, 17, 23, 67] {
                 let grid = Grid::new([31, 29], bands, nbpp, mode, [19, 17]);
                 for block in [(0, 0), (1, 1)] {
-                    for list in
-                        [None, Some(vec![bands - 1, 3, 11]), Some((0..bands).rev().collect())]
-                    {
+                    for list in [None, Some(vec![bands - 1, 3, 11]), Some((0..bands).rev().collect())] {
                         makers.push(Box::new(move |from| read(from, grid, block, list)));
                     }
                     makers.push(Box::new(move |from| write(from, grid, block)));
                 }
                 let pack = Pack { mode, rows: 19, columns: 17, bands, size: nbpp.div_ceil(8) };
-                makers.push(Box::new(move |from| Case::ToSequential {
-                    pack,
-                    data: samples(from, pack),
-                }));
-                makers.push(Box::new(move |from| Case::FromSequential {
-                    pack,
-                    data: samples(from, pack),
-                }));
+                makers.push(Box::new(move |from| Case::ToSequential { pack, data: samples(from, pack) }));
+                makers.push(Box::new(move |from| Case::FromSequential { pack, data: samples(from, pack) }));
                 for list in [vec![bands - 1, 3, 11], (0..bands).rev().collect()] {
                     let pack = Pack { mode: Mode::P, ..pack };
                     makers.push(Box::new(move |from| {

@@ -52,9 +52,7 @@ fn filled(case: &Case) -> u64 {
     let Answer { number: 9, .. } = model::lent_answer(case, &Lent::default()) else {
         return 0;
     };
-    let count = |list: &Option<Vec<u32>>, bands: u32| {
-        list.as_ref().map_or(u64::from(bands), |list| list.len() as u64)
-    };
+    let count = |list: &Option<Vec<u32>>, bands: u32| list.as_ref().map_or(u64::from(bands), |list| list.len() as u64);
     match case {
         Case::Read { grid, row, column, bands, .. } => {
             let pixels = layout::actual_rows(grid, *row) * layout::actual_columns(grid, *column);
@@ -67,9 +65,7 @@ fn filled(case: &Case) -> u64 {
         Case::MaskWrite { grid, header, .. } => mask::table_bytes(grid, header),
         Case::FromMarks { grid, .. } => mask::records(grid),
         Case::ToSequential { data, .. } | Case::FromSequential { data, .. } => data.len() as u64,
-        Case::Select { pack, data, bands, .. } => {
-            data.len() as u64 / u64::from(pack.bands) * count(bands, pack.bands)
-        }
+        Case::Select { pack, data, bands, .. } => data.len() as u64 / u64::from(pack.bands) * count(bands, pack.bands),
         _ => unreachable!("a call with no output is refused with 9"),
     }
 }

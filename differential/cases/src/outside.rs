@@ -57,19 +57,16 @@ fn grids() -> impl Iterator<Item = Case> {
     let nominal = pairs(blocks.into_iter(), blocks.into_iter());
     let kinds = pairs(bands.into_iter(), [8, 1, 64, 17, 0].into_iter());
     let all: Vec<_> = pairs(nominal, kinds.collect::<Vec<_>>().into_iter()).collect();
-    pairs(pictures, all.into_iter()).flat_map(
-        |((nrows, ncols), ((nppbv, nppbh), (bands, nbpp)))| {
-            let count =
-                |side: u32, block: u32| side.checked_div(block).map_or(0, |_| side.div_ceil(block));
-            let (down, across) = (count(nrows, nppbv), count(ncols, nppbh));
-            let near = |n: u32| [n, n.wrapping_add(1), n.wrapping_sub(1), 9_999, 10_000];
-            pairs(near(across).into_iter(), near(down).into_iter()).map(move |(nbpr, nbpc)| {
-                let mode = Mode::B;
-                let grid = Grid { nrows, ncols, bands, nbpp, mode, nppbh, nppbv, nbpr, nbpc };
-                Case::Parse { grid, table: Vec::new() }
-            })
-        },
-    )
+    pairs(pictures, all.into_iter()).flat_map(|((nrows, ncols), ((nppbv, nppbh), (bands, nbpp)))| {
+        let count = |side: u32, block: u32| side.checked_div(block).map_or(0, |_| side.div_ceil(block));
+        let (down, across) = (count(nrows, nppbv), count(ncols, nppbh));
+        let near = |n: u32| [n, n.wrapping_add(1), n.wrapping_sub(1), 9_999, 10_000];
+        pairs(near(across).into_iter(), near(down).into_iter()).map(move |(nbpr, nbpc)| {
+            let mode = Mode::B;
+            let grid = Grid { nrows, ncols, bands, nbpp, mode, nppbh, nppbv, nbpr, nbpc };
+            Case::Parse { grid, table: Vec::new() }
+        })
+    })
 }
 
 /// Every call, with next to nothing lent, on grids whose image or table is just inside or just past its
@@ -175,13 +172,11 @@ fn written() -> impl Iterator<Item = Case> {
     let codes = [0, 1, 255, 256, 65_535, 65_536, 0xff_ffff, 0x100_0000, u32::MAX];
     let code = pairs(codes.into_iter(), (0..=34).chain([0xffff]));
     let all: Vec<_> = pairs(code, pairs(0..=2, 0..=2).collect::<Vec<_>>().into_iter()).collect();
-    pairs(records, all.into_iter()).flat_map(
-        |((block_length, pad_length), ((code, code_bits), (blocks, pads)))| {
-            let header = Header { imdatoff: 0, block_length, pad_length, code_bits, code };
-            let (blocks, pads) = (vec![7; blocks], vec![8; pads]);
-            beside(Case::MaskWrite { grid: one_block(), header, blocks, pads })
-        },
-    )
+    pairs(records, all.into_iter()).flat_map(|((block_length, pad_length), ((code, code_bits), (blocks, pads)))| {
+        let header = Header { imdatoff: 0, block_length, pad_length, code_bits, code };
+        let (blocks, pads) = (vec![7; blocks], vec![8; pads]);
+        beside(Case::MaskWrite { grid: one_block(), header, blocks, pads })
+    })
 }
 
 /// Two by two blocks, each with an offset of its own.
@@ -226,10 +221,8 @@ fn reorderings() -> impl Iterator<Item = Case> {
 
 /// The reorderings that a mode has, and lists of bands in P.
 fn reorderings_of(pack: Pack, data: Vec<u8>) -> Vec<Case> {
-    let mut cases = vec![
-        Case::ToSequential { pack, data: data.clone() },
-        Case::FromSequential { pack, data: data.clone() },
-    ];
+    let mut cases =
+        vec![Case::ToSequential { pack, data: data.clone() }, Case::FromSequential { pack, data: data.clone() }];
     if pack.mode == Mode::P {
         for bands in [None, Some(vec![]), Some(vec![1, 0]), Some(vec![u32::MAX])] {
             cases.push(Case::Select { pack, data: data.clone(), bands, tile: 1, parallel: false });

@@ -63,31 +63,15 @@ pub fn exhaustive() -> Vec<Plan> {
             kinds: &[Kind::Window],
             size: Size { block: 2, list: 1, ..three },
         },
-        Plan {
-            name: "every image of one byte",
-            kinds: &[Kind::Read, Kind::Whole, Kind::Window],
-            size: one_byte,
-        },
-        Plan {
-            name: "every write of one byte",
-            kinds: &[Kind::Frame],
-            size: Size { picture: 1, ..one_byte },
-        },
+        Plan { name: "every image of one byte", kinds: &[Kind::Read, Kind::Whole, Kind::Window], size: one_byte },
+        Plan { name: "every write of one byte", kinds: &[Kind::Frame], size: Size { picture: 1, ..one_byte } },
         Plan {
             name: "every call after none or all blocks, pictures to 2 x 2",
             kinds: &[Kind::Frame],
             size: Size { calls: 1, ..small },
         },
-        Plan {
-            name: "every list of 3 calls, 12 bits",
-            kinds: &[Kind::Frame],
-            size: Size { width: Some(12), ..deep },
-        },
-        Plan {
-            name: "every list of 3 calls, 16 bits",
-            kinds: &[Kind::Frame],
-            size: Size { width: Some(16), ..deep },
-        },
+        Plan { name: "every list of 3 calls, 12 bits", kinds: &[Kind::Frame], size: Size { width: Some(12), ..deep } },
+        Plan { name: "every list of 3 calls, 16 bits", kinds: &[Kind::Frame], size: Size { width: Some(16), ..deep } },
         Plan {
             name: "every set of marks, pictures to 3 x 3",
             kinds: &[Kind::FromMarks],

@@ -5,8 +5,8 @@ use std::process::ExitCode;
 use std::time::Instant;
 
 use crate::{
-    exhaustive, figures, large, outside, outside_size, random_size, Case, Comparison, Difference,
-    Kind, Plan, Size, Source,
+    exhaustive, figures, large, outside, outside_size, random_size, Case, Comparison, Difference, Kind, Plan, Size,
+    Source,
 };
 
 /// Which cases are run.
@@ -20,8 +20,7 @@ pub enum Domain {
 
 /// Runs `[SEED [CASES]]`: CASES random cases of each kind; 1 and 20000 if not given.
 pub fn run(mut comparison: Comparison, domain: Domain, words: &[String]) -> ExitCode {
-    let number =
-        |i: usize, default| words.get(i).map_or(default, |word| word.parse().expect("a number"));
+    let number = |i: usize, default| words.get(i).map_or(default, |word| word.parse().expect("a number"));
     match whole(&mut comparison, domain, number(0, 1), number(1, 20_000)) {
         Ok(()) => {
             println!("\n{}no difference", comparison.tally);
@@ -90,11 +89,7 @@ fn listed(comparison: &mut Comparison, mut cases: impl Iterator<Item = Case>) ->
 }
 
 /// Runs a part, and prints how many calls of it were accepted and refused.
-fn reported(
-    comparison: &mut Comparison,
-    name: &str,
-    part: impl FnOnce(&mut Comparison) -> Outcome,
-) -> Outcome {
+fn reported(comparison: &mut Comparison, name: &str, part: impl FnOnce(&mut Comparison) -> Outcome) -> Outcome {
     let (accepted, refused) = (comparison.tally.accepted(), comparison.tally.refused());
     let time = Instant::now();
     part(comparison)?;

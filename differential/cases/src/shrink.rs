@@ -17,9 +17,8 @@ pub fn shrink(kind: Kind, size: &Size, choices: &[u64], differs: impl Fn(&Case) 
     };
     let mut best = attempt(choices).expect("the choices show a difference");
     loop {
-        let found = smaller(&best.0).find_map(|choices| {
-            attempt(&choices).filter(|found| (found.0.len(), &found.0) < (best.0.len(), &best.0))
-        });
+        let found = smaller(&best.0)
+            .find_map(|choices| attempt(&choices).filter(|found| (found.0.len(), &found.0) < (best.0.len(), &best.0)));
         match found {
             Some(found) => best = found,
             None => return best.1,
@@ -51,10 +50,7 @@ fn smaller(choices: &[u64]) -> impl Iterator<Item = Vec<u64>> + '_ {
             let start = choices.len().min(i + 1 + skip);
             let end = choices.len().min(start + piece);
             let before = choices[..i].iter().copied().chain([choices[i] - 1]);
-            before
-                .chain(choices[i + 1..start].iter().copied())
-                .chain(choices[end..].iter().copied())
-                .collect()
+            before.chain(choices[i + 1..start].iter().copied()).chain(choices[end..].iter().copied()).collect()
         })
     });
     let lowered = (0..choices.len()).flat_map(move |i| {

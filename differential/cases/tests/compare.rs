@@ -34,9 +34,7 @@ fn a_known_answer_passes_and_is_counted() {
 fn a_side_without_an_answer_is_a_difference_where_it_is_known() {
     let Figure { case, answer, .. } = figure_e();
     let given = Some(answer.clone());
-    for (sides, name) in
-        [([None, None], "first"), ([None, given.clone()], "first"), ([given, None], "second")]
-    {
+    for (sides, name) in [([None, None], "first"), ([None, given.clone()], "first"), ([given, None], "second")] {
         let [first, second] = sides;
         let mut sides = comparison(first, second);
         let difference = sides.known(&case, &answer).expect_err("a side has no answer");

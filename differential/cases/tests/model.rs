@@ -21,9 +21,7 @@ fn widths() {
 
 #[test]
 fn grid_limits() {
-    let number = |picture, bands, nbpp, block| {
-        questions::grid(&Grid::new(picture, bands, nbpp, Mode::S, block))
-    };
+    let number = |picture, bands, nbpp, block| questions::grid(&Grid::new(picture, bands, nbpp, Mode::S, block));
     assert_eq!(number([0, 1], 1, 8, [1, 1]), 1);
     assert_eq!(number([1, 100_000_000], 1, 8, [1, 8192]), 1);
     assert_eq!(number([1, 1], 1, 8, [1, 8193]), 1);
@@ -81,9 +79,8 @@ fn lent_buffers() {
 #[test]
 fn mask_questions() {
     let grid = Grid::new([1, 1], 1, 8, Mode::B, [1, 1]);
-    let write = |header: Header, blocks: &[u32], room: usize| {
-        mask::write(&grid, &header, blocks, &[], &mut vec![0; room])
-    };
+    let write =
+        |header: Header, blocks: &[u32], room: usize| mask::write(&grid, &header, blocks, &[], &mut vec![0; room]);
     let header = Header { block_length: 4, ..Header::default() };
     assert_eq!(write(header, &[7], 14), (0, 14));
     assert_eq!(write(header, &[7], 13), (9, 0));

@@ -43,8 +43,7 @@ fn plain() -> Grid {
 fn read(what: &str, grid: Grid, image: &[u8], (row, column): (u32, u32), list: Option<&[u32]>) {
     let original = original::decode_block(&grid, image, row, column, 0, list);
     // Long answers are cut.
-    let original =
-        original.map(|(samples, shape)| (samples[..samples.len().min(9)].to_vec(), shape));
+    let original = original.map(|(samples, shape)| (samples[..samples.len().min(9)].to_vec(), shape));
     let (image, bands) = (image.to_vec(), list.map(<[u32]>::to_vec));
     show(what, original, &Case::Read { grid, image, row, column, level: 0, bands });
 }
@@ -58,13 +57,7 @@ fn band_lists() {
 }
 
 fn widths() {
-    read(
-        "a read at NBPP 0 in P, no image",
-        Grid { nbpp: 0, mode: Mode::P, ..plain() },
-        &[],
-        (0, 0),
-        None,
-    );
+    read("a read at NBPP 0 in P, no image", Grid { nbpp: 0, mode: Mode::P, ..plain() }, &[], (0, 0), None);
     for nbpp in [17, 23, 33, 63, 65, 72] {
         let grid = Grid { nbpp, ..plain() };
         read(&format!("a read at NBPP {nbpp}, image 81 and so on"), grid, &[0x81; 9], (0, 0), None);
@@ -134,13 +127,8 @@ fn tables_read() {
         let mut table = vec![0, 0, 0, 0, 0, length, 0, 0, 0, 0];
         table.extend(vec![9; usize::from(length) + after]);
         let what = format!("a table with a block record of {length} bytes, {after} bytes after it");
-        show(
-            &what,
-            original::mask_parse(&grid, &table),
-            &Case::Parse { grid, table: table.clone() },
-        );
-        let again =
-            original::mask_parse(&grid, &table).and_then(|(m, _)| original::mask_to_bytes(&m));
+        show(&what, original::mask_parse(&grid, &table), &Case::Parse { grid, table: table.clone() });
+        let again = original::mask_parse(&grid, &table).and_then(|(m, _)| original::mask_to_bytes(&m));
         show("  and written again", again, &Case::Rewrite { grid, table });
     }
     let table = vec![0, 0, 0, 0, 0, 0, 0, 0, 0, 33, 1, 2, 3, 4, 5];

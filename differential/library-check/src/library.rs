@@ -10,12 +10,10 @@ pub fn answer(case: &Case) -> Answer {
             let (grid, bands) = (record(grid), asked(bands));
             gezdunar::decode_block(image, &grid, *row, *column, *level, bands, out).map(numbers)
         }),
-        Case::Whole { grid, image, row, column } => {
-            match gezdunar::whole_block(image, &record(grid), *row, *column) {
-                Ok(part) => Answer { bytes: part.to_vec(), ..Answer::default() },
-                Err(refusal) => Answer::refused(number(refusal)),
-            }
-        }
+        Case::Whole { grid, image, row, column } => match gezdunar::whole_block(image, &record(grid), *row, *column) {
+            Ok(part) => Answer { bytes: part.to_vec(), ..Answer::default() },
+            Err(refusal) => Answer::refused(number(refusal)),
+        },
         Case::Window { grid, image, area, bands } => {
             with_output(&lent, |out| window(&record(grid), image, area, asked(bands), out))
         }
@@ -25,9 +23,7 @@ pub fn answer(case: &Case) -> Answer {
         Case::MaskWrite { grid, header, blocks, pads } => {
             with_output(&lent, |out| mask_write(&record(grid), &mask(header), blocks, pads, out))
         }
-        Case::Lookup { grid, table, row, column, band } => {
-            lookup(&record(grid), table, (*row, *column), *band)
-        }
+        Case::Lookup { grid, table, row, column, band } => lookup(&record(grid), table, (*row, *column), *band),
         Case::FromMarks { grid, marks } => from_marks(&record(grid), marks, &lent),
         Case::ToSequential { pack, data } => {
             with_output(&lent, |out| reordered(gezdunar::to_band_sequential, pack, data, out))
@@ -35,9 +31,7 @@ pub fn answer(case: &Case) -> Answer {
         Case::FromSequential { pack, data } => {
             with_output(&lent, |out| reordered(gezdunar::from_band_sequential, pack, data, out))
         }
-        Case::Select { pack, data, bands, .. } => {
-            with_output(&lent, |out| selected(pack, data, asked(bands), out))
-        }
+        Case::Select { pack, data, bands, .. } => with_output(&lent, |out| selected(pack, data, asked(bands), out)),
         Case::Lent { .. } => unreachable!("lengths are given once"),
     }
 }
@@ -125,31 +119,19 @@ fn mask_write(
 }
 
 /// `to_band_sequential` or `from_band_sequential`.
-type Reorder =
-    fn(&[u8], InterleaveMode, u32, u32, u32, usize, &mut [u8]) -> Result<Reordered, Refusal>;
+type Reorder = fn(&[u8], InterleaveMode, u32, u32, u32, usize, &mut [u8]) -> Result<Reordered, Refusal>;
 
-fn reordered(
-    reorder: Reorder,
-    pack: &Pack,
-    data: &[u8],
-    out: &mut [u8],
-) -> Result<Vec<u64>, Refusal> {
+fn reordered(reorder: Reorder, pack: &Pack, data: &[u8], out: &mut [u8]) -> Result<Vec<u64>, Refusal> {
     let Pack { mode, rows, columns, bands, size } = *pack;
     let answer = reorder(data, imode(mode), rows, columns, bands, size as usize, out)?;
     Ok(unexpected(counts(answer), &[bands as usize, data.len()]))
 }
 
-fn selected(
-    pack: &Pack,
-    data: &[u8],
-    listed: Bands<'_>,
-    out: &mut [u8],
-) -> Result<Vec<u64>, Refusal> {
+fn selected(pack: &Pack, data: &[u8], listed: Bands<'_>, out: &mut [u8]) -> Result<Vec<u64>, Refusal> {
     let Pack { rows, columns, bands, size, .. } = *pack;
     let count = listed.count(bands);
     let band = data.len().checked_div(bands as usize).unwrap_or(0);
-    let answer =
-        gezdunar::fused_bip_to_bsq(data, rows, columns, bands, size as usize, listed, out)?;
+    let answer = gezdunar::fused_bip_to_bsq(data, rows, columns, bands, size as usize, listed, out)?;
     Ok(unexpected(counts(answer), &[count, count * band]))
 }
 
@@ -175,21 +157,14 @@ fn frame(grid: &gezdunar::Grid, calls: &[Call], lent: &Lent) -> Answer {
 }
 
 /// One call; the count for progress.
-fn frame_call(
-    grid: &gezdunar::Grid,
-    call: &Call,
-    image: &mut [u8],
-    marks: &mut [u64],
-) -> Result<u64, Refusal> {
+fn frame_call(grid: &gezdunar::Grid, call: &Call, image: &mut [u8], marks: &mut [u64]) -> Result<u64, Refusal> {
     match call {
         Call::Write { row, column, shape, data } => {
             let [bands, rows, columns] = shape.map(|n| n as usize);
             let shape = Shape { bands, rows, columns };
             gezdunar::encode_block(image, marks, grid, *row, *column, shape, data).map(|()| 0)
         }
-        Call::Skip { row, column } => {
-            gezdunar::skip_block(image, marks, grid, *row, *column).map(|()| 0)
-        }
+        Call::Skip { row, column } => gezdunar::skip_block(image, marks, grid, *row, *column).map(|()| 0),
         Call::Progress => gezdunar::progress(marks, grid).map(|count| count as u64),
         Call::Finish => gezdunar::finalize(image, marks, grid).map(|()| 0),
     }

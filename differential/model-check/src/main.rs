@@ -10,9 +10,7 @@ use cases::{model, run, Comparison, Domain, Side};
 fn main() -> ExitCode {
     original::silence_panics();
     let words: Vec<String> = std::env::args().skip(1).collect();
-    let sides = [
-        Side::new("the original", original::answer),
-        Side::new("document 01", |case| Some(model::answer(case))),
-    ];
+    let sides =
+        [Side::new("the original", original::answer), Side::new("document 01", |case| Some(model::answer(case)))];
     run(Comparison::new(sides), Domain::Compared, &words)
 }

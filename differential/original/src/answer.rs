@@ -25,16 +25,13 @@ pub fn answer(case: &Case) -> Option<Answer> {
         Case::MaskWrite { header, blocks, pads, .. } => {
             crate::mask_to_bytes(&mask(header, blocks, pads)).map(|bytes| accepted(vec![], bytes))
         }
-        Case::Lookup { grid, table, row, column, band } => {
-            lookup(grid, table, *row, *column, *band)
-        }
+        Case::Lookup { grid, table, row, column, band } => lookup(grid, table, *row, *column, *band),
         Case::FromMarks { grid, marks } => from_marks(grid, marks),
         Case::ToSequential { pack, data } => reordered(crate::to_band_sequential, pack, data),
         Case::FromSequential { pack, data } => reordered(crate::from_band_sequential, pack, data),
         Case::Select { pack, data, bands, tile, parallel } => {
             let (bands, tile) = (bands.as_deref(), *tile as usize);
-            crate::fused_bip_to_bsq_swap(pack, data, bands, tile, *parallel)
-                .map(|bytes| accepted(vec![], bytes))
+            crate::fused_bip_to_bsq_swap(pack, data, bands, tile, *parallel).map(|bytes| accepted(vec![], bytes))
         }
     };
     Some(answer.unwrap_or_else(|refusal| Answer::refused(refusal.number())))
@@ -74,8 +71,7 @@ fn window(grid: &Grid, image: &[u8], area: Area, bands: Option<&[u32]>) -> Resul
     let mut out = vec![0; count * area.rows as usize * area.columns as usize * size];
     for row in rows {
         for column in columns.clone() {
-            let (data, [bands, height, width]) =
-                crate::decode_block(grid, image, row, column, 0, bands)?;
+            let (data, [bands, height, width]) = crate::decode_block(grid, image, row, column, 0, bands)?;
             let mut samples = data.chunks_exact(size);
             for band in 0..bands {
                 for y in row * grid.nppbv..row * grid.nppbv + height {
@@ -105,9 +101,7 @@ fn replay(grid: &Grid, calls: &[Call]) -> Result<Encoder, Refusal> {
 
 fn apply(encoder: &mut Encoder, call: &Call) -> Result<(), Refusal> {
     match call {
-        Call::Write { row, column, shape, data } => {
-            encoder.encode_block(*row, *column, data, *shape)
-        }
+        Call::Write { row, column, shape, data } => encoder.encode_block(*row, *column, data, *shape),
         Call::Skip { row, column } => encoder.skip_block(*row, *column),
         Call::Progress | Call::Finish => Ok(()),
     }
@@ -202,18 +196,9 @@ fn lookup(grid: &Grid, table: &[u8], row: u32, column: u32, band: u32) -> Result
 
 fn from_marks(grid: &Grid, marks: &[u64]) -> Result<Answer, Refusal> {
     let marked = |i: usize| marks[i / 64] >> (i % 64) & 1 == 1;
-    let provided = grid
-        .every_block()
-        .enumerate()
-        .filter(|&(i, _)| marked(i))
-        .map(|(_, block)| block)
-        .collect();
+    let provided = grid.every_block().enumerate().filter(|&(i, _)| marked(i)).map(|(_, block)| block).collect();
     let mask = crate::mask_from_provided_blocks(grid, &provided)?;
-    let values = [
-        mask.block_mask_record_length,
-        mask.pad_pixel_mask_record_length,
-        mask.pad_pixel_code_length,
-    ];
+    let values = [mask.block_mask_record_length, mask.pad_pixel_mask_record_length, mask.pad_pixel_code_length];
     let bytes = mask.block_offsets.into_iter().flat_map(u32::to_be_bytes).collect();
     Ok(accepted(values.map(u64::from).to_vec(), bytes))
 }

@@ -119,13 +119,7 @@ impl Encoder {
         Ok(Encoder { encoder: Box::new(encoder), size: sample_bytes(grid) })
     }
 
-    pub fn encode_block(
-        &mut self,
-        row: u32,
-        column: u32,
-        data: &[u8],
-        shape: [u32; 3],
-    ) -> Result<(), Refusal> {
+    pub fn encode_block(&mut self, row: u32, column: u32, data: &[u8], shape: [u32; 3]) -> Result<(), Refusal> {
         guarded(|| {
             let data = swap_be_to_ne(data, self.size);
             self.encoder.encode_block(row, column, &data, shape)
@@ -151,13 +145,7 @@ pub fn mask_to_bytes(mask: &ImageDataMask) -> Result<Vec<u8>, Refusal> {
     guarded(|| Ok(mask.to_bytes()))
 }
 
-pub fn mask_has_block(
-    mask: &ImageDataMask,
-    grid: &Grid,
-    row: u32,
-    column: u32,
-    band: u32,
-) -> Result<bool, Refusal> {
+pub fn mask_has_block(mask: &ImageDataMask, grid: &Grid, row: u32, column: u32, band: u32) -> Result<bool, Refusal> {
     guarded(|| Ok(mask.has_block(row, column, grid.nbpr, band, imode(grid.mode))))
 }
 
@@ -171,10 +159,7 @@ pub fn mask_get_block_offset(
     guarded(|| Ok(mask.get_block_offset(row, column, grid.nbpr, band, imode(grid.mode))))
 }
 
-pub fn mask_from_provided_blocks(
-    grid: &Grid,
-    provided: &HashSet<(u32, u32)>,
-) -> Result<ImageDataMask, Refusal> {
+pub fn mask_from_provided_blocks(grid: &Grid, provided: &HashSet<(u32, u32)>) -> Result<ImageDataMask, Refusal> {
     guarded(|| {
         let mode = imode(grid.mode);
         let (nbpr, nbpc) = (grid.nbpr, grid.nbpc);
@@ -205,14 +190,10 @@ pub fn fused_bip_to_bsq_swap(
     parallel: bool,
 ) -> Result<Vec<u8>, Refusal> {
     guarded(|| {
-        let [rows, columns, all, size] =
-            [pack.rows, pack.columns, pack.bands, pack.size].map(|n| n as usize);
+        let [rows, columns, all, size] = [pack.rows, pack.columns, pack.bands, pack.size].map(|n| n as usize);
         let mut out = vec![0; rows * columns * bands.map_or(all, <[u32]>::len) * size];
-        let fused = if parallel {
-            interleave::fused_bip_to_bsq_swap_parallel
-        } else {
-            interleave::fused_bip_to_bsq_swap
-        };
+        let fused =
+            if parallel { interleave::fused_bip_to_bsq_swap_parallel } else { interleave::fused_bip_to_bsq_swap };
         fused(data, &mut out, rows, columns, all, size, bands, tile)?;
         undo_fused_swap(&mut out, size);
         Ok(out)

@@ -83,9 +83,7 @@ impl Refusal {
             Refusal::Block(_) => return 6,
             Refusal::Missing(..) => return 15,
             Refusal::Panic(_) => return cases::PANIC,
-            Refusal::Decode(_) => {
-                &[("out of bounds", 7), ("Band index", 8), ("Data size mismatch", 14)]
-            }
+            Refusal::Decode(_) => &[("out of bounds", 7), ("Band index", 8), ("Data size mismatch", 14)],
             Refusal::Encode(_) => &[("shape mismatch", 13), ("data size mismatch", 14)],
             Refusal::Parse(_) => &[("at least 10 bytes", 16), ("too short", 19)],
             Refusal::Other(_) => &[],

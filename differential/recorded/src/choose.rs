@@ -71,10 +71,8 @@ pub fn cases(seed: u64) -> Vec<Case> {
             let image = if width > 32 { 256 } else { 128 };
             let size = Size { mode: Some(mode), width: Some(width), image, ..small() };
             let plain = Size { refusals: false, ..size };
-            let all =
-                |case: &Case| has_edges(case) && matches!(case, Case::Read { bands: None, .. });
-            let listed =
-                |case: &Case| has_edges(case) && matches!(case, Case::Read { bands: Some(_), .. });
+            let all = |case: &Case| has_edges(case) && matches!(case, Case::Read { bands: None, .. });
+            let listed = |case: &Case| has_edges(case) && matches!(case, Case::Read { bands: Some(_), .. });
             for _ in 0..2 {
                 list.push(draw(Kind::Read, &mut from, &plain, all));
                 list.push(draw(Kind::Read, &mut from, &plain, listed));

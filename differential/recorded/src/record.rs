@@ -111,9 +111,7 @@ pub fn records(case: &Case, answer: &Answer) -> Vec<Vec<u8>> {
             let place = [*row, *column, *level];
             one(Ask::Read, grid_words(grid), &[&place[..], &list_words(bands)].concat(), image)
         }
-        Case::Whole { grid, image, row, column } => {
-            one(Ask::Whole, grid_words(grid), &[*row, *column], image)
-        }
+        Case::Whole { grid, image, row, column } => one(Ask::Whole, grid_words(grid), &[*row, *column], image),
         Case::Window { grid, image, area, bands } => {
             let area = [area.top, area.left, area.rows, area.columns];
             one(Ask::Window, grid_words(grid), &[&area[..], &list_words(bands)].concat(), image)
@@ -133,12 +131,8 @@ pub fn records(case: &Case, answer: &Answer) -> Vec<Vec<u8>> {
             let words: Vec<u8> = marks.iter().flat_map(|word| word.to_be_bytes()).collect();
             one(Ask::FromMarks, grid_words(grid), &[], &words)
         }
-        Case::ToSequential { pack, data } => {
-            one(Ask::ToSequential, mode_words(pack.mode), &pack_words(pack), data)
-        }
-        Case::FromSequential { pack, data } => {
-            one(Ask::FromSequential, mode_words(pack.mode), &pack_words(pack), data)
-        }
+        Case::ToSequential { pack, data } => one(Ask::ToSequential, mode_words(pack.mode), &pack_words(pack), data),
+        Case::FromSequential { pack, data } => one(Ask::FromSequential, mode_words(pack.mode), &pack_words(pack), data),
         Case::Select { pack, data, bands, .. } => {
             let arguments = [pack_words(pack), list_words(bands)].concat();
             one(Ask::Select, mode_words(pack.mode), &arguments, data)
@@ -158,9 +152,7 @@ fn frame_records(grid: &Grid, calls: &[Call], answer: &Answer) -> Vec<Vec<u8>> {
                 let arguments = [*row, *column, shape[0], shape[1], shape[2]];
                 record(Ask::Write, grid, &arguments, data, number, &[], &[])
             }
-            Call::Skip { row, column } => {
-                record(Ask::Skip, grid, &[*row, *column], &[], number, &[], &[])
-            }
+            Call::Skip { row, column } => record(Ask::Skip, grid, &[*row, *column], &[], number, &[], &[]),
             Call::Progress => record(Ask::Progress, grid, &[], &[], number, &values[..1], &[]),
             Call::Finish => record(Ask::Finish, grid, &[], &[], number, values, &[]),
         });

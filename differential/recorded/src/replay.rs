@@ -116,8 +116,8 @@ pub fn replay(file: &[u8]) -> Result<[u32; 17], u32> {
         assert!(record.bytes.is_empty(), "the record ends with its output");
         let mut out = [0xa5; BYTES];
         let given = call(ask, &grid, arguments, input, &mut held, &mut out);
-        let same_values = given.count == values.len()
-            && (0..values.len()).all(|i| given.values[i] == u64::from(values.at(i)));
+        let same_values =
+            given.count == values.len() && (0..values.len()).all(|i| given.values[i] == u64::from(values.at(i)));
         if u32::from(given.number) != number || !same_values || given.bytes != output {
             return Err(i);
         }
@@ -127,14 +127,7 @@ pub fn replay(file: &[u8]) -> Result<[u32; 17], u32> {
     Ok(counts)
 }
 
-fn call<'a>(
-    ask: Ask,
-    g: &Grid,
-    a: Words,
-    input: &'a [u8],
-    held: &mut Frame,
-    out: &'a mut [u8; BYTES],
-) -> Given<'a> {
+fn call<'a>(ask: Ask, g: &Grid, a: Words, input: &'a [u8], held: &mut Frame, out: &'a mut [u8; BYTES]) -> Given<'a> {
     let mut room = [0; WORDS];
     let mut more_room = [0; WORDS];
     let bands = |list: Option<&[u32]>, all: u32| list.map_or(all as usize, <[u32]>::len);
@@ -224,13 +217,7 @@ fn call<'a>(
             Given::new(number, &lengths, &out[..4 * count])
         }
         Ask::ToSequential | Ask::FromSequential | Ask::Select => {
-            let pack = Pack {
-                mode: g.mode,
-                rows: a.at(0),
-                columns: a.at(1),
-                bands: a.at(2),
-                size: a.at(3),
-            };
+            let pack = Pack { mode: g.mode, rows: a.at(0), columns: a.at(1), bands: a.at(2), size: a.at(3) };
             let list = if ask == Ask::Select { a.list(4, &mut room) } else { None };
             let pixels = bands(list, pack.bands) * (pack.rows * pack.columns) as usize;
             let number = match ask {

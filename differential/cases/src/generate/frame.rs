@@ -57,9 +57,7 @@ fn write(grid: &Grid, (row, column): (u32, u32), from: &mut Source, size: &Size)
             shape[side] -= 1;
         }
     }
-    let exact: u64 =
-        shape.iter().map(|&n| u64::from(n)).product::<u64>() * layout::sample_bytes(grid);
-    let length =
-        if refusal(from, size, 24) { (exact + from.below(4)).saturating_sub(2) } else { exact };
+    let exact: u64 = shape.iter().map(|&n| u64::from(n)).product::<u64>() * layout::sample_bytes(grid);
+    let length = if refusal(from, size, 24) { (exact + from.below(4)).saturating_sub(2) } else { exact };
     Call::Write { row, column, shape, data: bytes(from, size, length) }
 }

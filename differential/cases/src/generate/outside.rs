@@ -120,9 +120,7 @@ fn argument(case: &mut Case, from: &mut Source) {
 fn counted(case: &mut Case, from: &mut Source) {
     let in_list = from.below(2) == 1;
     match case {
-        Case::Read { bands: listed, .. }
-        | Case::Window { bands: listed, .. }
-        | Case::Select { bands: listed, .. }
+        Case::Read { bands: listed, .. } | Case::Window { bands: listed, .. } | Case::Select { bands: listed, .. }
             if in_list =>
         {
             bands(listed, from);
@@ -134,9 +132,9 @@ fn counted(case: &mut Case, from: &mut Source) {
         Case::MaskWrite { header, .. } => field(header, from),
         Case::Lookup { row, column, band, .. } => replace(from, vec![row, column, band]),
         Case::FromMarks { marks, .. } => list(marks, from, |from| from.below(1 << 52)),
-        Case::ToSequential { pack, .. }
-        | Case::FromSequential { pack, .. }
-        | Case::Select { pack, .. } => replace(from, pack_fields(pack)),
+        Case::ToSequential { pack, .. } | Case::FromSequential { pack, .. } | Case::Select { pack, .. } => {
+            replace(from, pack_fields(pack))
+        }
         Case::Parse { .. } | Case::Rewrite { .. } | Case::Lent { .. } => {}
     }
 }
@@ -175,14 +173,10 @@ fn length(from: &mut Source, exact: u64) -> u64 {
 fn lent(case: Case, from: &mut Source) -> Case {
     let exact = Lent::of(&case);
     let lent = match case {
-        Case::Frame { .. } => Lent {
-            output: 0,
-            image: length(from, exact.image.min(MOST)),
-            marks: length(from, exact.marks.min(MOST)),
-        },
-        Case::Whole { .. } | Case::Parse { .. } | Case::Rewrite { .. } | Case::Lookup { .. } => {
-            exact
+        Case::Frame { .. } => {
+            Lent { output: 0, image: length(from, exact.image.min(MOST)), marks: length(from, exact.marks.min(MOST)) }
         }
+        Case::Whole { .. } | Case::Parse { .. } | Case::Rewrite { .. } | Case::Lookup { .. } => exact,
         _ => Lent { output: length(from, exact.output), ..exact },
     };
     Case::Lent { case: Box::new(case), lent }

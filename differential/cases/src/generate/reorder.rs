@@ -15,12 +15,8 @@ fn pack(mode: Mode, from: &mut Source, size: &Size) -> Pack {
 }
 
 fn pack_data(pack: &Pack, from: &mut Source, size: &Size) -> Vec<u8> {
-    let exact = [pack.rows, pack.columns, pack.bands, pack.size]
-        .iter()
-        .map(|&n| u64::from(n))
-        .product::<u64>();
-    let length =
-        if refusal(from, size, 8) { (exact + from.below(4)).saturating_sub(2) } else { exact };
+    let exact = [pack.rows, pack.columns, pack.bands, pack.size].iter().map(|&n| u64::from(n)).product::<u64>();
+    let length = if refusal(from, size, 8) { (exact + from.below(4)).saturating_sub(2) } else { exact };
     bytes(from, size, length)
 }
 

@@ -19,18 +19,16 @@ pub fn lent_answer(case: &Case, lent: &Lent) -> Answer {
             let (number, part) = read::whole(grid, image, (*row, *column));
             Answer { number, values: Vec::new(), bytes: part.to_vec() }
         }
-        Case::Window { grid, image, area, bands } => with_output(lent, |out| {
-            (read::window(grid, image, *area, bands.as_deref(), out), Vec::new())
-        }),
+        Case::Window { grid, image, area, bands } => {
+            with_output(lent, |out| (read::window(grid, image, *area, bands.as_deref(), out), Vec::new()))
+        }
         Case::Frame { grid, calls } => frame_answer(grid, calls, lent),
         Case::Parse { grid, table } => parse(grid, table),
         Case::Rewrite { grid, table } => rewrite(grid, table),
         Case::MaskWrite { grid, header, blocks, pads } => {
             with_output(lent, |out| (mask::write(grid, header, blocks, pads, out).0, Vec::new()))
         }
-        Case::Lookup { grid, table, row, column, band } => {
-            lookup(grid, table, (*row, *column), *band)
-        }
+        Case::Lookup { grid, table, row, column, band } => lookup(grid, table, (*row, *column), *band),
         Case::FromMarks { grid, marks } => from_marks(grid, marks, lent),
         Case::ToSequential { pack, data } => {
             with_output(lent, |out| (reorder::to_sequential(pack, data, out), Vec::new()))
@@ -38,9 +36,9 @@ pub fn lent_answer(case: &Case, lent: &Lent) -> Answer {
         Case::FromSequential { pack, data } => {
             with_output(lent, |out| (reorder::from_sequential(pack, data, out), Vec::new()))
         }
-        Case::Select { pack, data, bands, .. } => with_output(lent, |out| {
-            (reorder::select(pack, data, bands.as_deref(), out), Vec::new())
-        }),
+        Case::Select { pack, data, bands, .. } => {
+            with_output(lent, |out| (reorder::select(pack, data, bands.as_deref(), out), Vec::new()))
+        }
         Case::Lent { .. } => unreachable!("lengths are given once"),
     }
 }

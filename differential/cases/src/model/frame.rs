@@ -109,7 +109,6 @@ pub fn finish(g: &Grid, image: &[u8], marks: &[u64]) -> (u8, u32, u32) {
     if number != 0 {
         return (number, 0, 0);
     }
-    let missing =
-        g.every_block().find(|&(row, column)| !marked(marks, layout::block_index(g, row, column)));
+    let missing = g.every_block().find(|&(row, column)| !marked(marks, layout::block_index(g, row, column)));
     missing.map_or((0, 0, 0), |(row, column)| (15, row, column))
 }

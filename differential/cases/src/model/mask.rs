@@ -109,12 +109,7 @@ fn write_number(g: &Grid, h: &Header, blocks: &[u32], pads: &[u32], out: &[u8]) 
 }
 
 /// The number, whether the block is present, and its offset if it has one.
-pub fn lookup(
-    g: &Grid,
-    table: &[u8],
-    (row, column): (u32, u32),
-    band: u32,
-) -> (u8, bool, Option<u32>) {
+pub fn lookup(g: &Grid, table: &[u8], (row, column): (u32, u32), band: u32) -> (u8, bool, Option<u32>) {
     let (number, header, _) = parse(g, table);
     if number != 0 {
         return (number, false, None);
@@ -128,8 +123,7 @@ pub fn lookup(
     if header.block_length == 0 {
         return (0, true, None);
     }
-    let record =
-        layout::block_index(g, row, column) + if g.mode == Mode::S { u64::from(band) } else { 0 };
+    let record = layout::block_index(g, row, column) + if g.mode == Mode::S { u64::from(band) } else { 0 };
     let at = 10 + code_bytes(&header) + 4 * record;
     let offset = bits::get(table, 8 * at, 32) as u32;
     if offset == EMPTY {

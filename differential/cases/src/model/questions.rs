@@ -18,11 +18,7 @@ pub fn grid(g: &Grid) -> u8 {
     if !matches!(g.nbpp, 1..=16 | 24..=32 | 40 | 48 | 56 | 64) {
         return 2;
     }
-    if g.nbpr != g.ncols.div_ceil(g.nppbh)
-        || g.nbpc != g.nrows.div_ceil(g.nppbv)
-        || g.nbpr > 9_999
-        || g.nbpc > 9_999
-    {
+    if g.nbpr != g.ncols.div_ceil(g.nppbh) || g.nbpc != g.nrows.div_ceil(g.nppbv) || g.nbpr > 9_999 || g.nbpc > 9_999 {
         return 3;
     }
     if layout::image_bytes(g) > 4_294_967_294 {

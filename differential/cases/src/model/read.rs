@@ -54,14 +54,7 @@ pub fn block(
     (0, [bands.len() as u64, rows, columns])
 }
 
-fn block_number(
-    g: &Grid,
-    image: &[u8],
-    (row, column): (u32, u32),
-    level: u32,
-    list: Option<&[u32]>,
-    out: &[u8],
-) -> u8 {
+fn block_number(g: &Grid, image: &[u8], (row, column): (u32, u32), level: u32, list: Option<&[u32]>, out: &[u8]) -> u8 {
     let number = questions::grid(g);
     if number != 0 {
         return number;
@@ -125,11 +118,7 @@ fn window_number(g: &Grid, image: &[u8], area: Area, list: Option<&[u32]>, out: 
         return number;
     }
     let [top, left, rows, columns] = [area.top, area.left, area.rows, area.columns].map(u64::from);
-    if rows == 0
-        || columns == 0
-        || top + rows > u64::from(g.nrows)
-        || left + columns > u64::from(g.ncols)
-    {
+    if rows == 0 || columns == 0 || top + rows > u64::from(g.nrows) || left + columns > u64::from(g.ncols) {
         return 10;
     }
     for row in area.top / g.nppbv..=(area.top + area.rows - 1) / g.nppbv {

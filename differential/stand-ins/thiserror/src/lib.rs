@@ -47,9 +47,7 @@ fn variants(name: &str, body: TokenStream) -> String {
             },
             TokenTree::Punct(sign) if sign.as_char() == ',' => {
                 let (pattern, arguments) = std::mem::take(&mut fields);
-                arms += &format!(
-                    "{name}::{variant} {pattern} => ::std::write!(f, {text} {arguments}),\n"
-                );
+                arms += &format!("{name}::{variant} {pattern} => ::std::write!(f, {text} {arguments}),\n");
             }
             _ => {}
         }
@@ -61,9 +59,7 @@ fn variants(name: &str, body: TokenStream) -> String {
 fn error_text(attribute: TokenStream) -> Option<String> {
     let mut tokens = attribute.into_iter();
     match (tokens.next(), tokens.next()) {
-        (Some(TokenTree::Ident(word)), Some(TokenTree::Group(group)))
-            if word.to_string() == "error" =>
-        {
+        (Some(TokenTree::Ident(word)), Some(TokenTree::Group(group))) if word.to_string() == "error" => {
             Some(group.stream().to_string())
         }
         _ => None,
@@ -72,10 +68,8 @@ fn error_text(attribute: TokenStream) -> Option<String> {
 
 /// The pattern and the arguments of a tuple variant: `(f0, f1)` and `, f0, f1`.
 fn tuple_fields(fields: TokenStream) -> (String, String) {
-    let commas = fields
-        .into_iter()
-        .filter(|token| matches!(token, TokenTree::Punct(sign) if sign.as_char() == ','))
-        .count();
+    let commas =
+        fields.into_iter().filter(|token| matches!(token, TokenTree::Punct(sign) if sign.as_char() == ',')).count();
     let names: Vec<String> = (0..=commas).map(|i| format!("f{i}")).collect();
     let list = names.join(", ");
     (format!("({list})"), format!(", {list}"))
