@@ -1,6 +1,7 @@
--- Laws of samples that are put one after another, for any target: what some puts do is told by the samples alone, and not by their order.
+-- Laws of samples that are put one after another, for any target: what some puts do is told by the samples alone, and
+-- not by their order.
 -- Assumes nothing.
-use Prim.Native.Nat.{ℕ, _+_, _-_, _<_}
+use Prim.Native.Nat.{ℕ, _+_, _<_}
 use mathlib.Core.Path.{_≡_, refl, sym, ap, _∙_}
 use mathlib.Core.Logic.{_≢_, _⊎_, inl, inr, ⊎-elim}
 use mathlib.Core.List.{List}
@@ -38,7 +39,14 @@ module _ (t : Target) where
   pub puts-less : {some less : Samples} {xs ys : List ℕ} → Puts t some xs ys
       → ((b r c : ℕ) → Among t b r c → less b r c → some b r c) → Puts t less xs ys
   puts-less p h =
-      record { size = p .size; kept = p .kept; put = λ b r c a l. p .put b r c a (h b r c a l); stays = p .stays; free = p .free }
+      record {
+        size = p .size;
+        kept = p .kept;
+        put = λ b r c a l. p .put b r c a (h b r c a l);
+        stays = p .stays;
+        free
+            = p .free;
+      }
 
   -- some samples and then others
   pub puts-then : {some more all : Samples} {xs ys zs : List ℕ} → Puts t some xs ys → Puts t more ys zs
@@ -57,13 +65,15 @@ module _ (t : Target) where
       → Puts t (AtTurn all turn m) ys zs → Puts t (Before all turn (m + 1)) xs zs
   puts-turn {all} {turn} m p q = puts-then p q (λ b r c a h. go b r c h (decLt (turn b r c) m))
     where
-      go : (b r c : ℕ) → Before all turn (m + 1) b r c → Dec (turn b r c < m) → Before all turn m b r c ⊎ AtTurn all turn m b r c
+      go : (b r c : ℕ) → Before all turn (m + 1) b r c → Dec (turn b r c < m) → Before all turn m b r c ⊎ AtTurn all
+          turn m b r c
       go b r c h (yes l) = inl (h .0, l)
       go b r c h (no l) = inr (h .0, omega arith)
 
   -- all turns of a loop
   pub puts-turns : (all : Samples) (turn : ℕ → ℕ → ℕ → ℕ) (n : ℕ) (f : ℕ → List ℕ → List ℕ) (xs : List ℕ)
-      → ((m : ℕ) → m < n → (ys : List ℕ) → length ys ≡ length xs → (t .keeps xs → t .keeps ys) → Puts t (AtTurn all turn m) ys (f m ys))
+      → ((m : ℕ) → m < n → (ys : List ℕ) → length ys ≡ length xs → (t .keeps xs → t .keeps ys)
+      → Puts t (AtTurn all turn m) ys (f m ys))
       → ((b r c : ℕ) → Among t b r c → all b r c → turn b r c < n) → Puts t all xs (iter n f xs)
   puts-turns all turn n f xs step last =
       puts-less
@@ -73,7 +83,8 @@ module _ (t : Target) where
       (λ b r c a h. (h, last b r c a h))
 
   -- n samples put, the x-th being sample (b x, r x, c x)
-  pub puts-run : {some : Samples} {xs ys : List ℕ} → Agree t → (n : ℕ) (b r c : ℕ → ℕ) → length ys ≡ length xs → (t .keeps xs → t .keeps ys)
+  pub puts-run : {some : Samples} {xs ys : List ℕ} → Agree t → (n : ℕ) (b r c : ℕ → ℕ) → length ys ≡ length xs
+      → (t .keeps xs → t .keeps ys)
       → ((x : ℕ) → x < n → Among t (b x) (r x) (c x)) → ((x : ℕ) → x < n → Holds t ys (b x) (r x) (c x))
       → ((p : ℕ) → ((x i : ℕ) → x < n → i < t .wide → p ≢ t .at (b x) (r x) (c x) + i) → t .unit ys p ≡ t .unit xs p)
       → ((b′ r′ c′ : ℕ) → Among t b′ r′ c′ → some b′ r′ c′ → (x : ℕ) × (x < n) × (b′ ≡ b x) × (r′ ≡ r x) × (c′ ≡ c x))
@@ -82,7 +93,8 @@ module _ (t : Target) where
       record {
         size = size;
         kept = kept;
-        put = λ b′ r′ c′ a s. let q = run b′ r′ c′ a s in moved b′ r′ c′ (q .0) (q .2) (q .3) (q .4) (hit (q .0) (q .1));
+        put = λ b′ r′ c′ a s. let q = run b′ r′ c′ a s in moved b′ r′ c′ (q .0) (q .2) (q .3) (q .4)
+            (hit (q .0) (q .1));
         stays = λ b′ r′ c′ a h i l. stays b′ r′ c′ a h i l (ℕ-discrete _ _);
         free = λ p f. other p (λ x i l m. f _ _ _ i (among x l) m);
       }
@@ -91,7 +103,8 @@ module _ (t : Target) where
       moved b′ r′ c′ x eb er ec h = rw (eb, er, ec) h
 
       stays : (b′ r′ c′ : ℕ) → Among t b′ r′ c′ → Holds t xs b′ r′ c′ → (i : ℕ) → i < t .wide
-          → Dec (t .unit ys (t .at b′ r′ c′ + i) ≡ t .value b′ r′ c′ i) → t .unit ys (t .at b′ r′ c′ + i) ≡ t .value b′ r′ c′ i
+          → Dec (t .unit ys (t .at b′ r′ c′ + i) ≡ t .value b′ r′ c′ i) → t .unit ys (t .at b′ r′ c′ + i)
+          ≡ t .value b′ r′ c′ i
       stays b′ r′ c′ a h i l (yes e) = e
       stays b′ r′ c′ a h i l (no ne) =
           other _ (λ x j m k e.
@@ -102,7 +115,8 @@ module _ (t : Target) where
       → Puts t (InRow b r c (n + m)) xs zs
   row-then b r c n m p q = puts-then p q (λ b′ r′ c′ a h. go b′ r′ c′ h (decLt c′ (c + n)))
     where
-      go : (b′ r′ c′ : ℕ) → InRow b r c (n + m) b′ r′ c′ → Dec (c′ < c + n) → InRow b r c n b′ r′ c′ ⊎ InRow b r (c + n) m b′ r′ c′
+      go : (b′ r′ c′ : ℕ) → InRow b r c (n + m) b′ r′ c′ → Dec (c′ < c + n) → InRow b r c n b′ r′ c′ ⊎ InRow b r
+          (c + n) m b′ r′ c′
       go b′ r′ c′ h (yes l) = inl (h .0, h .1, h .2, l)
       go b′ r′ c′ h (no l) = inr (h .0, h .1, omega arith, omega (arith, h .3))
 
@@ -119,4 +133,5 @@ module _ (t : Target) where
           none : (b r c i : ℕ) → Among t b r c → i < t .wide → p ≢ t .at b r c + i
           none b r c i a l e =
               let q = all b r c a in
-              ne (ap (t .unit ys) e ∙ y .put b r c a (q .0) i l ∙ sym (z .put b r c a (q .1) i l) ∙ ap (t .unit zs) (sym e))
+              ne (ap (t .unit ys) e ∙ y .put b r c a (q .0) i l ∙ sym (z .put b r c a (q .1) i l)
+              ∙ ap (t .unit zs) (sym e))

@@ -16,7 +16,8 @@ use Rattle.samples.proofs.Patched.{patched-none}
 use Rattle.moves.specs.declared.part.Part.{Part}
 use Rattle.moves.specs.Internal.Parts.{bandOf, rowOf, columnOf, inPart}
 
--- is sample n of the answer in the first `count` bands, in the `lines` rows from `row` on and in the `size` columns from `column` on
+-- is sample n of the answer in the first `count` bands, in the `lines` rows from `row` on and in the `size` columns
+-- from `column` on
 unfoldable pub inRect : (count row lines column size rows columns n : ℕ) → Bool
 inRect count row lines column size rows columns n =
     every
@@ -52,7 +53,13 @@ pub within-rect : (count row lines column size rows columns n : ℕ) → Inside 
     → inRect count row lines column size rows columns n ≡ true
 unfolding inRect every
 within-rect count row lines column size rows columns n i =
-    simp (lt-ltb _ _ (i .band-lt), le-leb _ _ (i .row-from), lt-ltb _ _ (i .row-to), le-leb _ _ (i .column-from), lt-ltb _ _ (i .column-to))
+    simp (
+      lt-ltb _ _ (i .band-lt),
+      le-leb _ _ (i .row-from),
+      lt-ltb _ _ (i .row-to),
+      le-leb _ _ (i .column-from),
+      lt-ltb _ _ (i .column-to),
+    )
 
 -- a part's test is that of its rectangle
 pub rect-part : (p : Part) (count rows columns n : ℕ)
@@ -63,7 +70,8 @@ rect-part p count rows columns n = refl
 -- ---- the band, row and column of a sample
 
 -- sample n, put together again
-pub number-of : (rows columns n : ℕ) → n ≡ (bandOf rows columns n * rows + rowOf rows columns n) * columns + columnOf columns n
+pub number-of : (rows columns n : ℕ) → n ≡ (bandOf rows columns n * rows + rowOf rows columns n) * columns + columnOf
+    columns n
 number-of rows columns n =
     sym (ap (λ (x : ℕ). x * columns + n % columns) (div-add-mod' (n / columns) rows) ∙ div-add-mod' n columns)
 
@@ -72,7 +80,8 @@ pub record Digits (rows columns k y x n : ℕ) : Type 0 where
   pub row : rowOf rows columns n ≡ y
   pub column : columnOf columns n ≡ x
 
-pub digits-of : (rows columns k y x n : ℕ) → y < rows → x < columns → n ≡ (k * rows + y) * columns + x → Digits rows columns k y x n
+pub digits-of : (rows columns k y x n : ℕ) → y < rows → x < columns → n ≡ (k * rows + y) * columns + x
+    → Digits rows columns k y x n
 digits-of rows columns k y x n hy hx e =
     let q : n / columns ≡ k * rows + y = ap (λ (z : ℕ). z / columns) e ∙ digits-div (k * rows + y) hx in
     record {

@@ -21,4 +21,5 @@ put-keep l dat Q s image q =
     iter-keep Q (l .columns) _ y (λ c hc z. s b r c (record { in-b = hb; in-r = hr; in-c = hc }) z))) q
 
 pub length-putBlock : (l : BlockLayout) (dat image : List ℕ) → length (putBlock l dat image) ≡ length image
-length-putBlock l dat image = put-keep l dat (λ y. length y ≡ length image) (λ b r c s y e. length-putBits y _ _ _ ∙ e) image refl
+length-putBlock l dat image =
+    put-keep l dat (λ y. length y ≡ length image) (λ b r c s y e. length-putBits y _ _ _ ∙ e) image refl

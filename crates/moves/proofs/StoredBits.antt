@@ -34,7 +34,9 @@ module _ (l : BlockLayout) (f : Sound l) (dat image : List ℕ) where
       (all-put l f (dataAt l dat) image fits .put b r c (record { in-b = t .in-b; in-r = t .in-r; in-c = t .in-c }) tt)
 
   -- a bit that is no sample's is kept
-  pub put-away : (p : ℕ) → ((b r c i : ℕ) → SampleBit l b r c i → p ≢ place l b r c + i) → bitAt (putBlock l dat image) p ≡ bitAt image p
+  pub put-away : (p : ℕ) → ((b r c i : ℕ) → SampleBit l b r c i → p ≢ place l b r c + i)
+      → bitAt (putBlock l dat image) p ≡ bitAt image p
   put-away p ne =
       put-keep l dat (λ y. bitAt y p ≡ bitAt image p)
-      (λ b r c s y m. putBits-bit y _ _ _ p (outside p _ (l .nbpp) (λ i h. ne b r c i (record { sample = s; in-i = h }))) ∙ m) image refl
+      (λ b r c s y m. putBits-bit y _ _ _ p
+      (outside p _ (l .nbpp) (λ i h. ne b r c i (record { sample = s; in-i = h }))) ∙ m) image refl

@@ -53,7 +53,8 @@ pub whole-no : (count rows columns k : ℕ) → 0 < rows → 0 < columns → cou
 whole-no count rows columns k hr hc h =
     sym (rect-part (wholePart rows columns) count rows columns k)
     ∙ outside count 0 rows 0 columns rows columns k
-    (λ i. let l : k < count * rows * columns = div-lt-iff-lt-mul hc .0 (div-lt-iff-lt-mul hr .0 (i .band-lt)) in omega arith)
+    (λ i. let l : k < count * rows * columns = div-lt-iff-lt-mul hc .0 (div-lt-iff-lt-mul hr .0 (i .band-lt)) in omega
+    arith)
 
 whole-number : (l : BlockLayout) (src : List ℕ) (bs : Bands) (rows columns k : ℕ)
     → partSample l src (wholePart rows columns) bs rows columns k
@@ -64,7 +65,8 @@ whole-number l src bs rows columns k =
     let x : 0 + (columnOf columns k - 0) ≡ columnOf columns k = omega arith in
     rw (y, x)
 
-pub whole-done : (l : BlockLayout) (src : List ℕ) (n : ℕ) (bs : Bands) (out : List ℕ) {zs : List ℕ} → PlanesReadable l n bs (length out)
+pub whole-done : (l : BlockLayout) (src : List ℕ) (n : ℕ) (bs : Bands) (out : List ℕ) {zs : List ℕ}
+    → PlanesReadable l n bs (length out)
     → zs ≡ patched (sampleBytes l) (partSample l src (wholePart (l .rows) (l .columns)) bs (l .rows) (l .columns))
     (inPart (wholePart (l .rows) (l .columns)) (bandCount (l .bands) bs) (l .rows) (l .columns)) out
     → zs ≡ over out 0 (planesOf l src bs)
@@ -76,4 +78,5 @@ whole-done l src n bs out t ez =
     ∙ patched-all (sampleBytes l) _ _ out (k * l .rows * l .columns) (sample-size l f .some) (t .room)
     (λ q h. whole-yes k (l .rows) (l .columns) q (f .some-rows) (f .some-columns) h)
     (λ q h _. whole-no k (l .rows) (l .columns) q (f .some-rows) (f .some-columns) h)
-    ∙ ap (over out 0) (values-ext _ _ (sampleBytes l) (k * l .rows * l .columns) (λ q _. whole-number l src bs (l .rows) (l .columns) q))
+    ∙ ap (over out 0) (values-ext _ _ (sampleBytes l) (k * l .rows * l .columns) (λ q _. whole-number l src bs
+    (l .rows) (l .columns) q))

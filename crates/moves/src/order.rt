@@ -4,7 +4,7 @@ ghost use mathlib.Core.Path.{_≡_};
 ghost use mathlib.Core.Bool.{true, false};
 ghost use Prim.Native.Nat.{_*_, _%_, _^_, _<_};
 ghost use Rattle.layout.specs.Internal.Layout.{Sound};
-ghost use Rattle.moves.specs.Internal.Orders.{cutInto, partOf, pieceCount, pieceOf, RightCuts, Chosen};
+ghost use Rattle.moves.specs.Internal.Orders.{cutInto, partOf, orderOf, pieceCount, pieceOf, RightCuts, Chosen};
 use common::min;
 use layout::BlockLayout;
 use layout::Strides;
@@ -13,7 +13,7 @@ use layout::Strides;
 const CACHE_LINE: usize = 512;
 // The bits of the image that a piece spans where bands alternate: they stay in the cache until the last band is moved.
 const PIECE: usize = 65_536;
-// From more bands on than these, rows of bands that alternate are moved eight at a time.
+// The rows of more bands than these that alternate are moved so many at a time.
 const FEW_BANDS: usize = 16;
 
 const ROWS_AT_ONCE: usize = 8;
@@ -111,6 +111,27 @@ impl Order {
     }
 }
 
+// The order in which b bands, r rows and c columns of so many are moved together.
+fn ordered(
+    way: Way,
+    bands: usize,
+    b: usize,
+    rows: usize,
+    r: usize,
+    columns: usize,
+    c: usize,
+) -> Order
+    requires { ⌜ (0 < bands) × (0 < b) × (0 < rows) × (0 < r) × (0 < columns) × (0 < c) ⌝ }
+    ensures { λ o. ⌜ o ≡ orderOf way bands b rows r columns c ⌝ }
+{
+    Order {
+        way,
+        bands: cut_into(bands, b),
+        rows: cut_into(rows, r),
+        columns: cut_into(columns, c),
+    }
+}
+
 // How many listed bands are read pixel by pixel: all where they are few, else none.
 pub fn listed_together(all: bool, count: usize) -> usize
     ensures { λ n. ⌜ (0 < n → (all ≡ false) × (n ≡ count)) ⌝ }
@@ -137,8 +158,8 @@ fn long_pixels(by: Strides, width: usize) -> bool
     by.band == width
 }
 
-// How many columns of a band are moved together. Where samples of other bands stand between, in pixels that share lines
-// of the cache: those of a piece.
+// How many columns of a band are moved together. Where samples of other bands stand between, in pixels that share
+// lines of the cache: those of a piece.
 fn columns_together(by: Strides, width: usize, columns: usize) -> usize
     requires { ⌜ (0 < by .column) × (0 < columns) ⌝ }
     ensures { λ n. ⌜ 0 < n ⌝ }
@@ -152,9 +173,8 @@ fn columns_together(by: Strides, width: usize, columns: usize) -> usize
     PIECE / by.column
 }
 
-// How many rows of a band are moved together. All where a band's rows lie together; else those of a piece, or where the
-// rows of many bands alternate some, so
-// that each band is touched in longer runs.
+// How many rows of a band are moved together: all where they lie together, else those of a piece; some where the
+// rows of many bands alternate, so that each band is touched in longer runs.
 fn rows_together(by: Strides, width: usize, bands: usize, rows: usize) -> usize
     requires { ⌜ 0 < rows ⌝ }
     ensures { λ n. ⌜ 0 < n ⌝ }
@@ -189,27 +209,12 @@ pub fn choose(
     let width = layout.nbpp as usize;
     let by = layout.strides();
     if !layout.has_strides() {
-        return Order {
-            way: Way::Runs,
-            bands: cut_into(bands, 1),
-            rows: cut_into(rows, 1),
-            columns: cut_into(columns, columns),
-        };
+        return ordered(Way::Runs, bands, 1, rows, 1, columns, columns);
     }
     if together > 0 && long_pixels(by, width) {
-        return Order {
-            way: Way::Pixels,
-            bands: cut_into(bands, together),
-            rows: cut_into(rows, 1),
-            columns: cut_into(columns, columns),
-        };
+        return ordered(Way::Pixels, bands, together, rows, 1, columns, columns);
     }
     let r = rows_together(by, width, bands, rows);
     let c = columns_together(by, width, columns);
-    Order {
-        way: Way::Rows,
-        bands: cut_into(bands, 1),
-        rows: cut_into(rows, r),
-        columns: cut_into(columns, c),
-    }
+    ordered(Way::Rows, bands, 1, rows, r, columns, c)
 }

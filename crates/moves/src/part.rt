@@ -18,7 +18,7 @@ use layout::BlockLayout;
 use layout::bands::band_at;
 use layout::bands::band_count;
 use rows::listed::gather_listed;
-use rows::read::read_rows;
+use rows::read_rows;
 
 // `rows` rows of `columns` samples of a block, from its sample (r, c) on, and the row and column of the answer that
 // they go to.
@@ -63,8 +63,8 @@ fn read_piece(
         (sides .part .columns) piece ⌝ }
     requires { ⌜ WayFits way layout (piece .bands .count) (piece .rows .count) ⌝ }
     requires { ⌜ Listed way all (bandCount (layout .bands) (bandsOf all (now bands))) (piece .bands) ⌝ }
-    ensures { λ _. ⌜ SomeRead layout (now (src .entry)) (sides .part) (bandsOf all (now (bands .entry))) (sides .rows)
-        (sides .columns) (InPiece piece) (now (out .entry)) (now (out .exit)) ⌝ }
+    ensures { λ _. ⌜ SomeRead layout (now (src .entry)) (sides .part) (bandsOf all (now (bands .entry)))
+        (sides .rows) (sides .columns) (InPiece piece) (now (out .entry)) (now (out .exit)) ⌝ }
 {
     let image = sides.image;
     let planes = sides.planes;
@@ -148,8 +148,8 @@ pub fn read_part(
 // The planes of the bands asked for go to the front of `out`.
 pub fn read_planes(src: &[u8], layout: BlockLayout, all: bool, bands: &[u32], out: &mut [u8])
     requires { ⌜ PlanesReadable layout (length (now src)) (bandsOf all (now bands)) (length (now out)) ⌝ }
-    ensures { λ _. ⌜ now (out .exit)
-        ≡ over (now (out .entry)) 0 (planesOf layout (now (src .entry)) (bandsOf all (now (bands .entry)))) ⌝ }
+    ensures { λ _. ⌜ now (out .exit) ≡ over (now (out .entry)) 0
+        (planesOf layout (now (src .entry)) (bandsOf all (now (bands .entry)))) ⌝ }
 {
     let rows = layout.rows;
     let columns = layout.columns;

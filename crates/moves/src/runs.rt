@@ -69,8 +69,8 @@ pub fn read_row(
     }
 }
 
-// `count` samples of a row of a block, from sample (b, r, c) on, are put at their places. They stand at index `from` of
-// `dat` on.
+// `count` samples of a row of a block, from sample (b, r, c) on, are put at their places. They stand at index `from`
+// of `dat` on.
 pub fn put_row(
     image: &mut [u8],
     layout: BlockLayout,

@@ -25,8 +25,8 @@ impl Spacing {
     }
 }
 
-// A part, how many rows and columns a plane has, and where the part's samples lie on both sides: in the image in bits,
-// which holds where the layout has
+// A part, how many rows and columns a plane has, and where the part's samples lie on both sides: in the image in
+// bits, which holds where the layout has
 // strides, and in planes in bytes.
 pub struct Sides {
     pub part: Part,

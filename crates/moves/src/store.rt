@@ -17,8 +17,8 @@ use crate::spacing::Sides;
 use crate::spacing::both_sides;
 use common::clear::clear_bytes;
 use layout::BlockLayout;
-use rows::gather::gather_rows;
-use rows::write::write_rows;
+use rows::whole::gather_rows;
+use rows::write_rows;
 
 // Clears the bytes of each run of a block.
 fn clear_runs(image: &mut [u8], layout: BlockLayout)
@@ -44,8 +44,8 @@ fn store_piece(
     piece: Piece,
     dat: &[u8],
 )
-    requires { ⌜ sides
-        ≡ sidesOf layout (wholePart (layout .rows) (layout .columns)) (layout .rows) (layout .columns) ⌝ }
+    requires { ⌜ sides ≡ sidesOf layout (wholePart (layout .rows) (layout .columns)) (layout .rows)
+        (layout .columns) ⌝ }
     requires { ⌜ Writable layout (now dat) (now image) ⌝ }
     requires { ⌜ PieceIn (layout .bands) (layout .rows) (layout .columns) piece ⌝ }
     requires { ⌜ WayFits way layout (piece .bands .count) (piece .rows .count) ⌝ }

@@ -1,2 +1,2 @@
 -- The laws of `rows`.
-pub mod Whole
+pub mod WholeBytes

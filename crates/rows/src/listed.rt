@@ -1,9 +1,8 @@
 // Listed bands out of pixels, pixel by pixel: the bands of a pixel share their cache lines.
 ghost use mathlib.Core.Path.{_≡_};
-ghost use Prim.Native.Nat.{ℕ, _+_, _*_, _≤_, _<_};
-ghost use lib.ListN.{length, getD};
+ghost use lib.ListN.{length};
 ghost use Rattle.common.specs.Turns.{iter};
-ghost use Rattle.rows.specs.Internal.Rows.{sampleRead, pixelRead};
+ghost use Rattle.rows.specs.Internal.Rows.{PixelsIn, sampleRead, pixelsRead};
 use bits::bytes::get_be;
 use bits::bytes::put_be;
 
@@ -19,9 +18,7 @@ fn gather_pixel(
     to: usize,
     plane: usize,
 )
-    requires { ⌜ (size ≤ 8)
-        × (((k : ℕ) → k < length (now list) → at + getD (now list) k 0 * band + size ≤ length (now src)))
-        × (to + length (now list) * plane + size ≤ length (now out) + plane) ⌝ }
+    requires { ⌜ PixelsIn (length (now src)) (length (now out)) (now list) at 0 band size to plane 1 ⌝ }
     ensures { λ _. ⌜ now (out .exit) ≡ iter (length (now (list .entry)))
         (sampleRead (now (src .entry)) (now (list .entry)) at band size to plane) (now (out .entry)) ⌝ }
 {
@@ -31,8 +28,8 @@ fn gather_pixel(
     }
 }
 
-// The listed bands of `count` pixels, which start `pixel` bytes apart from index `at` of `src` on. A band's samples go
-// side by side to `out`.
+// The listed bands of `count` pixels, which start `pixel` bytes apart from index `at` of `src` on. A band's samples
+// go side by side to `out`.
 fn gather_listed_any(
     src: &[u8],
     at: usize,
@@ -45,12 +42,9 @@ fn gather_listed_any(
     to: usize,
     plane: usize,
 )
-    requires { ⌜ (size ≤ 8) × (0 < length (now list)) ×
-        (((k : ℕ) → k < length (now list)
-        → at + getD (now list) k 0 * band + count * pixel + size ≤ length (now src) + pixel))
-        × (to + length (now list) * plane + count * size ≤ length (now out) + plane) ⌝ }
-    ensures { λ _. ⌜ now (out .exit) ≡ iter count
-        (pixelRead (now (src .entry)) (now (list .entry)) at pixel band size to plane) (now (out .entry)) ⌝ }
+    requires { ⌜ PixelsIn (length (now src)) (length (now out)) (now list) at pixel band size to plane count ⌝ }
+    ensures { λ _. ⌜ now (out .exit) ≡ pixelsRead (now (src .entry)) (now (list .entry)) at pixel band size to
+        plane count (now (out .entry)) ⌝ }
 {
     for c in 0..count {
         gather_pixel(
@@ -79,12 +73,9 @@ pub fn gather_listed(
     to: usize,
     plane: usize,
 )
-    requires { ⌜ (size ≤ 8) × (0 < length (now list)) ×
-        (((k : ℕ) → k < length (now list)
-        → at + getD (now list) k 0 * band + count * pixel + size ≤ length (now src) + pixel))
-        × (to + length (now list) * plane + count * size ≤ length (now out) + plane) ⌝ }
-    ensures { λ _. ⌜ now (out .exit) ≡ iter count
-        (pixelRead (now (src .entry)) (now (list .entry)) at pixel band size to plane) (now (out .entry)) ⌝ }
+    requires { ⌜ PixelsIn (length (now src)) (length (now out)) (now list) at pixel band size to plane count ⌝ }
+    ensures { λ _. ⌜ now (out .exit) ≡ pixelsRead (now (src .entry)) (now (list .entry)) at pixel band size to
+        plane count (now (out .entry)) ⌝ }
 {
     match size {
         1 => gather_listed_any(src, at, pixel, band, 1, list, count, out, to, plane),

@@ -39,6 +39,10 @@ pub record InSpan (s : Span) (x : ℕ) : Type 0 where
 abbrev pub pieceCount : Order → ℕ
 pieceCount o = o .rows .parts * o .columns .parts * o .bands .parts
 
+abbrev pub orderOf : Way → (bands b rows r columns c : ℕ) → Order
+orderOf way bands b rows r columns c =
+    record { way = way; bands = cutInto bands b; rows = cutInto rows r; columns = cutInto columns c }
+
 -- bands change fastest, then columns, then rows
 abbrev pub pieceOf : Order → ℕ → Piece
 pieceOf o k =

@@ -73,8 +73,8 @@ wholePart rows columns = record { r = 0; c = 0; rows = rows; columns = columns; 
 -- the planes of the bands asked for: band by band, row by row, each sample in its big-endian bytes
 unfoldable pub planesOf : BlockLayout → List ℕ → Bands → List ℕ
 planesOf l src bs =
-    let band : ℕ → ℕ = λ n. bandAt bs (bandOf (l .rows) (l .columns) n) in
-    values (λ n. sampleAt l src (band n) (rowOf (l .rows) (l .columns) n) (columnOf (l .columns) n))
+    values (λ n. sampleAt l src (bandAt bs (bandOf (l .rows) (l .columns) n)) (rowOf (l .rows) (l .columns) n)
+    (columnOf (l .columns) n))
     (sampleBytes l) (bandCount (l .bands) bs * l .rows * l .columns)
 
 -- planes that can be read: the source reaches the block's end, the bands are bands of the block, and there is room

@@ -14,8 +14,8 @@ Samples = ℕ → ℕ → ℕ → Type 0
 abbrev pub InRow : (b r c n : ℕ) → Samples
 InRow b r c n b′ r′ c′ = (b′ ≡ b) × (r′ ≡ r) × (c ≤ c′) × (c′ < c + n)
 
--- where samples go in a list of bytes: sample (b, r, c) takes `wide` units, bytes or bits, from unit `at b r c` on, and
--- unit i of it is to be `value b r c i`.
+-- where samples go in a list of bytes: sample (b, r, c) takes `wide` units, bytes or bits, from unit `at b r c` on,
+-- and unit i of it is to be `value b r c i`.
 -- `keeps` is what else holds of the list, before and after
 pub record Target : Type 1 where
   pub bands : ℕ

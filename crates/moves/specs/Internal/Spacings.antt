@@ -4,12 +4,17 @@ use Prim.Native.Nat.{ℕ, _+_, _*_, _^_, _<_}
 use Rattle.layout.specs.declared.BlockLayout.{BlockLayout}
 use Rattle.layout.specs.Internal.Layout.{sampleBytes, place}
 use Rattle.layout.specs.Internal.Spacing.{bandStride, rowStride, columnStride}
+use Rattle.moves.specs.declared.order.Piece.{Piece}
 use Rattle.moves.specs.declared.part.Part.{Part}
 use Rattle.moves.specs.declared.spacing.Spacing.{Spacing}
 use Rattle.moves.specs.declared.spacing.Sides.{Sides}
 
 abbrev pub spacedAt : Spacing → ℕ → ℕ → ℕ → ℕ
 spacedAt s b r c = s .first + b * s .band + r * s .row + c * s .column
+
+-- the first sample of a piece, in band b
+abbrev pub firstAt : Spacing → ℕ → Piece → ℕ
+firstAt s b q = spacedAt s b (q .rows .from) (q .columns .from)
 
 -- sample (b, i, j) of a part, b a band of the block: its first bit in the image, where the layout has strides
 abbrev pub imageSpacing : BlockLayout → Part → Spacing

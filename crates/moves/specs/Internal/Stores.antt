@@ -23,10 +23,8 @@ dataAt l dat b r c = beAt dat (dataIndex l b r c) (sampleBytes l) % 2 ^ l .nbpp
 -- number v b r c put at the place of each actual sample (b, r, c)
 abbrev pub putAll : BlockLayout → (ℕ → ℕ → ℕ → ℕ) → List ℕ → List ℕ
 putAll l v image =
-    iter (l .rows)
-    (λ r im. iter (l .bands)
-    (λ b im. iter (l .columns) (λ c im. putBits im (place l b r c) (l .nbpp) (v b r c)) im) im)
-    image
+    iter (l .rows) (λ r im. iter (l .bands) (λ b im. iter (l .columns) (λ c im. putBits im (place l b r c) (l .nbpp)
+    (v b r c)) im) im) image
 
 -- each actual sample of planes put at its place
 unfoldable pub putBlock : BlockLayout → List ℕ → List ℕ → List ℕ

@@ -10,8 +10,8 @@ use Rattle.common.specs.Turns.{iter}
 use Rattle.bits.specs.Values.{values, sideBySide}
 use Rattle.samples.specs.Internal.Samples.{spaced, putSpaced}
 
--- samples of w bits that can be moved out of n bytes or into them: `count` of them, one every `step` bits from bit `at`
--- on, of s bytes each
+-- samples of w bits that can be moved out of n bytes or into them: `count` of them, one every `step` bits from bit
+-- `at` on, of s bytes each
 pub record Movable (n at step w s count : ℕ) : Type 0 where
   pub whole : w ≡ 8 * s → (at % 8 ≡ 0) × (step % 8 ≡ 0)
   pub inside : at + count * step + w ≤ 8 * n + step
@@ -23,16 +23,29 @@ abbrev pub rowRead : List ℕ → (at row step w s count to line : ℕ) → ℕ 
 rowRead xs at row step w s count to line i ys =
     over ys (to + i * line) (values (spaced xs (at + i * row) step w) s count)
 
+abbrev pub rowsRead : List ℕ → (at row step w s count to line rows : ℕ) → List ℕ → List ℕ
+rowsRead xs at row step w s count to line rows ys = iter rows (rowRead xs at row step w s count to line) ys
+
 -- rows of samples of s whole bytes read: `at`, `row` and `step` are counted in bytes
 abbrev pub wholeRows : List ℕ → (at row step s count to line rows : ℕ) → List ℕ → List ℕ
 wholeRows xs at row step s count to line rows ys =
-    iter rows (rowRead xs (8 * at) (8 * row) (8 * step) (8 * s) s count to line) ys
+    rowsRead xs (8 * at) (8 * row) (8 * step) (8 * s) s count to line rows ys
 
--- row i written: `count` samples of s bytes, side by side from index from + i * line of dat on; their low w bits go to
--- bit at + i * row on, one every `step` bits
+-- row i written: `count` samples of s bytes, side by side from index from + i * line of dat on; their low w bits go
+-- to bit at + i * row on, one every `step` bits
 abbrev pub rowWritten : List ℕ → (from line s w at row step count : ℕ) → ℕ → List ℕ → List ℕ
 rowWritten dat from line s w at row step count i ys =
     putSpaced (sideBySide dat (from + i * line) s) w (at + i * row) step count ys
+
+abbrev pub rowsWritten : List ℕ → (from line s w at row step count rows : ℕ) → List ℕ → List ℕ
+rowsWritten dat from line s w at row step count rows ys = iter rows (rowWritten dat from line s w at row step count) ys
+
+-- listed bands of `count` pixels of samples of s bytes in n bytes, and room for them in m bytes
+pub record PixelsIn (n m : ℕ) (list : List ℕ) (at pixel band s to plane count : ℕ) : Type 0 where
+  pub size-le : s ≤ 8
+  pub some : 0 < length list
+  pub inside : (k : ℕ) → k < length list → at + getD list k 0 * band + count * pixel + s ≤ n + pixel
+  pub room : to + length list * plane + count * s ≤ m + plane
 
 -- the band listed at place k read out of the pixel at index `at` of xs: its s bytes go to index to + k * plane on
 abbrev pub sampleRead : List ℕ → List ℕ → (at band s to plane : ℕ) → ℕ → List ℕ → List ℕ
@@ -43,3 +56,6 @@ sampleRead xs list at band s to plane k ys =
 abbrev pub pixelRead : List ℕ → List ℕ → (at pixel band s to plane : ℕ) → ℕ → List ℕ → List ℕ
 pixelRead xs list at pixel band s to plane c ys =
     iter (length list) (sampleRead xs list (at + c * pixel) band s (to + c * s) plane) ys
+
+abbrev pub pixelsRead : List ℕ → List ℕ → (at pixel band s to plane count : ℕ) → List ℕ → List ℕ
+pixelsRead xs list at pixel band s to plane count ys = iter count (pixelRead xs list at pixel band s to plane) ys

@@ -26,7 +26,8 @@ add-t5 c = omega (arith, div-le-self (c .args .length - 1) (c .args .most))
 returns : tie.Need-returns
 returns c =
     let a = c .args in
-    ap (λ (n : ℕ). record { length = a .length; most = a .most; parts = n }) (rounded-up (a .length) (a .most) (c .pre .0) (c .pre .1))
+    ap (λ (n : ℕ). record { length = a .length; most = a .most; parts = n }) (rounded-up (a .length) (a .most)
+    (c .pre .0) (c .pre .1))
 
 pub cut-into-spec : {M : Type 1} → statement M
 cut-into-spec = tie.close (tie.spec sub-t3 div-t4 add-t5 returns)

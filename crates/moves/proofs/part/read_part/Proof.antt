@@ -1,28 +1,28 @@
 -- `moves::part::read_part` meets its contract: the samples of k pieces are read.
 -- Assumes nothing.
 use borrow.Author.Needs.{needs}
-use mathlib.Core.Path.{_≡_, sym, ap}
+use mathlib.Core.Path.{_≡_, _∙_}
 use Prim.Native.Nat.{_-_, _^_, _≤_, _<_}
 use native.Mathlib.Omega.{arith}
 use denote.Ref.{now}
 use lib.ListN.{length}
 use Rattle.layout.specs.Bands.{bandsOf, bandCount}
 use Rattle.layout.proofs.Places.{sample-size}
-use Rattle.moves.specs.declared.spacing.Sides.{Sides}
 use Rattle.moves.specs.Internal.Parts.{answerTarget}
 use Rattle.moves.specs.Internal.Puts.{Puts}
-use Rattle.moves.specs.Internal.Orders.{pieceCount}
+use Rattle.moves.specs.Internal.Orders.{pieceCount, Chosen}
 use Rattle.moves.proofs.Putting.{puts-none}
 use Rattle.moves.proofs.Answers.{answer-done}
 use Rattle.moves.proofs.Pieces.{planes-fit, samples-fit}
-use Rattle.moves.proofs.ReadPieces.{own-sides, still-readable, read-done}
-use Rattle.moves.proofs.Orders.{PiecesBefore, OrderOf, no-piece, piece-turn, pieces-done, order-of, pieces-fit, piece-inside, piece-way, piece-listed}
+use Rattle.moves.proofs.ReadPieces.{own-sides, own-readable, own-order, read-done}
+use Rattle.moves.proofs.Orders.{PiecesBefore, no-piece, piece-turn, pieces-done, pieces-fit, piece-inside, piece-way, piece-listed}
 use Rattle.moves.proofs.part.read_part.Statement.{statement}
 use Rattle.moves.proofs.part.read_part.Tie as tie
 
 abbrev Inv-loop : tie.InvT-loop
 Inv-loop src layout all bands rows columns out₀ count together order sides k₀ k-end out k =
-    (k ≤ k-end) × Puts (answerTarget layout src (sides .part) (bandsOf all bands) (sides .rows) (sides .columns)) (PiecesBefore order k) out₀ out
+    (k ≤ k-end) × Puts (answerTarget layout src (sides .part) (bandsOf all bands) (sides .rows) (sides .columns))
+    (PiecesBefore order k) out₀ out
 
 abbrev μ-loop : tie.MeasureT-loop
 μ-loop src layout all bands rows columns out₀ count together order sides k₀ k-end out k = k-end - k
@@ -34,21 +34,23 @@ numbers c = c .before .before .before
 abbrev start : tie.After-both-sides Inv-loop μ-loop → tie.Start Inv-loop μ-loop
 start c = c .before .before .before .before .before .before .before .before
 
--- the order is one of the part's samples
+-- the order, told by the part that the code has
 order-is : (c : tie.After-both-sides Inv-loop μ-loop)
-    → let a = start c .args in
-    let d = c .both-sides .result in
-    OrderOf (answerTarget (a .layout) (now (a .src)) (d .part) (bandsOf (a .all) (now (a .bands))) (d .rows) (d .columns)) (c .before .choose .result)
+    → let a = start c .args in let p = c .both-sides .result .part in
+    Chosen (a .layout) (c .before .before .listed-together .result)
+    (bandCount (a .layout .bands) (bandsOf (a .all) (now (a .bands)))) (p .rows) (p .columns)
+    (c .before .choose .result)
 order-is c =
-    let e = c .both-sides .ensures in
-    order-of _ _ _ _ _ _ (c .before .choose .ensures) _ (sym (c .before .before .before .before .band-count .ensures)) (ap (λ (x : Sides). x .part .rows) e) (ap (λ (x : Sides). x .part .columns) e)
+    let e = c .before .before .before .before .band-count .ensures in
+    own-order (c .both-sides .ensures) _ e (c .before .choose .ensures)
 
 in-out : (s : tie.Start Inv-loop μ-loop) → length (now (s .args .out)) < 2 ^ 64
 in-out s = omega arith
 
 -- some band is asked for
 some : (c : tie.Else1 Inv-loop μ-loop)
-    → let a = c .before .before .before .before .before .args in 0 < bandCount (a .layout .bands) (bandsOf (a .all) (now (a .bands)))
+    → let a = c .before .before .before .before .before .args in
+    0 < bandCount (a .layout .bands) (bandsOf (a .all) (now (a .bands)))
 some c = omega (arith, c .before .band-count .ensures, c .if1 .left)
 
 band-count-requires : tie.Need-band-count-requires Inv-loop μ-loop
@@ -59,7 +61,8 @@ returns c =
     let s = c .before .before .before .before .before in
     let t = s .pre in
     let e = c .before .band-count .ensures in
-    answer-done _ _ _ _ _ _ (sample-size _ (t .accepted) .some) (t .to-rows) (t .to-columns) (puts-none _ {some = λ k i j. ⊥} _ (λ k i j h. h))
+    answer-done _ _ _ _ _ _ (sample-size _ (t .accepted) .some) (t .to-rows) (t .to-columns)
+    (puts-none _ {some = λ k i j. ⊥} _ (λ k i j h. h))
     (λ k i j a. omega (arith, a .in-b, c .if1 .taken))
 
 listed-together-requires : tie.Need-listed-together-requires Inv-loop μ-loop
@@ -73,11 +76,16 @@ choose-requires c κs =
 both-sides-requires : tie.Need-both-sides-requires Inv-loop μ-loop
 both-sides-requires c κs =
     let s = c .before .before .before .before .before .before .before in
-    let t = s .pre in (
+    let t = s .pre in
+    let fit = planes-fit _ _ _ _ _ _ _ t (in-out s) (some (c .before .before)) in (
       t .accepted,
       (
-        record { in-b = t .accepted .some-bands; in-r = omega (arith, t .in-rows, t .some-rows); in-c = omega (arith, t .in-columns, t .some-columns) },
-        planes-fit _ _ _ _ _ _ _ t (in-out s) (some (c .before .before)),
+        record {
+          in-b = t .accepted .some-bands;
+          in-r = omega (arith, t .in-rows, t .some-rows);
+          in-c = omega (arith, t .in-columns, t .some-columns);
+        },
+        fit,
       ),
     )
 
@@ -86,25 +94,31 @@ pieces-requires c κs =
     let s = c .before .before .before .before .before .before .before .before in
     let n = c .before .before .before in
     let g = samples-fit _ _ _ _ _ _ _ (s .pre) (in-out s) in
-    pieces-fit _ _ _ _ _ _ (c .before .choose .ensures) (rw (n .before .band-count .ensures) g) (omega (arith, n .if1 .left))
+    pieces-fit (c .before .choose .ensures) (rw (n .before .band-count .ensures) g)
+    (omega (arith, n .if1 .left))
 
 loop-holds : tie.Need-loop-holds Inv-loop μ-loop
 loop-holds c = (omega arith, no-piece _ (c .before .before .choose .result) _)
 
 piece-requires : tie.Need-piece-requires Inv-loop μ-loop
-piece-requires c κs = (order-is (numbers c) .right, omega (arith, c .loop-test .taken, c .before .before .pieces .ensures))
+piece-requires c κs =
+    (order-is (numbers c) .right, omega (arith, c .loop-test .taken, c .before .before .pieces .ensures))
 
 read-piece-requires : tie.Need-read-piece-requires Inv-loop μ-loop
 read-piece-requires c κs =
     let piece = c .before in
+    let head = piece .before .before in
     let n = numbers (piece .before) in
     let s = start n in
-    let h : piece .before .before .loop .k < pieceCount (n .before .choose .result) = omega (arith, piece .before .loop-test .taken, piece .before .before .before .pieces .ensures) in
-    let chosen = n .before .choose .ensures in
+    let h : head .loop .k < pieceCount (n .before .choose .result)
+    = omega (arith, piece .before .loop-test .taken, head .before .pieces .ensures) in
     let e = n .before .before .before .before .band-count .ensures in
     let few = n .before .before .listed-together .ensures in
-    let own = own-sides _ _ _ _ _ _ _ _ (n .both-sides .ensures) (s .pre) e (piece-inside _ _ _ _ _ _ chosen _ h (piece .piece .ensures)) in
-    (own .0, (still-readable _ _ _ _ _ _ (own .1) (piece .before .before .loop .inv .1 .size), (own .2, (piece-way _ _ _ _ _ _ chosen _ h (piece .piece .ensures), piece-listed _ _ _ _ _ _ chosen _ h (piece .piece .ensures) _ e few))))
+    let listed = piece-listed (order-is n) _ h (piece .piece .ensures) _ (λ g. let f = few g in (f .0, f .1 ∙ e)) in
+    let way = piece-way (order-is n) _ h (piece .piece .ensures) in
+    let inside = piece-inside (order-is n) _ h (piece .piece .ensures) in
+    let t = own-readable (n .both-sides .ensures) _ _ (s .pre) (head .loop .inv .1 .size) in
+    (own-sides _ (n .both-sides .ensures), (t, (inside, (way, listed))))
 
 add-k : tie.Need-add-k Inv-loop μ-loop
 add-k c = omega arith
@@ -116,7 +130,10 @@ loop-again : tie.Need-loop-again Inv-loop μ-loop
 loop-again c =
     let piece = c .before .before .before .before in
     let head = piece .before .before in
-    (omega (arith, piece .before .loop-test .taken), piece-turn _ _ (order-is (numbers (piece .before))) _ (piece .piece .ensures) (head .loop .inv .1) (c .before .before .read-piece .ensures))
+    let before = head .loop .inv .1 in
+    let read = c .before .before .read-piece .ensures in
+    let turn = piece-turn _ (order-is (numbers (piece .before))) _ (piece .piece .ensures) before read in
+    (omega (arith, piece .before .loop-test .taken), turn)
 
 same-length : tie.Need-same-length Inv-loop μ-loop
 same-length c = c .before .loop .inv .1 .size
@@ -125,26 +142,13 @@ returns-2 : tie.Need-returns-2 Inv-loop μ-loop
 returns-2 c =
     let n = c .before .before .before in
     let t = start n .pre in
-    let e : c .before .loop .k ≡ pieceCount (n .before .choose .result) = omega (arith, c .before .before .pieces .ensures) in
-    read-done _ _ _ _ _ _ _ _ (n .both-sides .ensures) t (c .before .loop .inv .1) (pieces-done _ _ (order-is n) (c .before .loop .k) e)
+    let e : c .before .loop .k ≡ pieceCount (n .before .choose .result)
+    = omega (arith, c .before .before .pieces .ensures) in
+    let all = pieces-done _ (order-is n) (c .before .loop .k) e in
+    read-done _ _ _ _ _ _ _ _ (n .both-sides .ensures) t (c .before .loop .inv .1) all
 
 pub read-part-spec : {M : Type 1} → statement M
 read-part-spec =
     tie.close
-    (tie.spec
-    Inv-loop
-    μ-loop
-    band-count-requires
-    returns
-    listed-together-requires
-    choose-requires
-    both-sides-requires
-    pieces-requires
-    loop-holds
-    piece-requires
-    read-piece-requires
-    add-k
-    loop-less
-    loop-again
-    same-length
-    returns-2)
+    (tie.spec Inv-loop μ-loop band-count-requires returns listed-together-requires choose-requires both-sides-requires
+    pieces-requires loop-holds piece-requires read-piece-requires add-k loop-less loop-again same-length returns-2)

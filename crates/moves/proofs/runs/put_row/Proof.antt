@@ -6,16 +6,15 @@ use Prim.Native.Nat.{_+_, _-_, _*_, _≤_}
 use native.Mathlib.Omega.{arith}
 use denote.Ref.{now}
 use lib.ListN.{length}
-use Rattle.rows.specs.Internal.Rows.{Movable}
 use Rattle.layout.specs.declared.Strides.{Strides}
-use Rattle.layout.specs.Internal.Layout.{sampleBytes, Sample}
+use Rattle.layout.specs.Internal.Layout.{Sample}
 use Rattle.layout.specs.Internal.Spacing.{columnStride}
 use Rattle.layout.proofs.Places.{sample-size}
 use Rattle.layout.proofs.Spaced.{strides-fit}
 use Rattle.moves.specs.Internal.Puts.{InRow, Puts}
 use Rattle.moves.specs.Internal.Stores.{dataAt, imageTarget}
 use Rattle.moves.proofs.Putting.{puts-none, row-then}
-use Rattle.moves.proofs.Pieces.{run-movable, in-line, can-read}
+use Rattle.moves.proofs.Pieces.{in-line, can-move}
 use Rattle.moves.proofs.StorePieces.{data-end, run-put}
 use Rattle.moves.proofs.runs.put_row.Statement.{statement}
 use Rattle.moves.proofs.runs.put_row.Tie as tie
@@ -34,33 +33,30 @@ numbers c = c .before .before
 abbrev start : tie.After-strides Inv-loop μ-loop → tie.Start Inv-loop μ-loop
 start c = c .before .before .before .before .before
 
-step-is : (c : tie.After-strides Inv-loop μ-loop) → let l = start c .args .layout in c .strides .result .column ≡ columnStride (l .mode) l
+step-is : (c : tie.After-strides Inv-loop μ-loop) → let l =
+    start c .args .layout in c .strides .result .column ≡ columnStride (l .mode) l
 step-is c = ap (λ (s : Strides). s .column) (c .strides .ensures)
 
 -- the sample that a turn begins with
-here : (c : tie.In-loop Inv-loop μ-loop) → let a = start (numbers c) .args in Sample (a .layout) (a .b) (a .r) (a .c + c .before .loop .done)
+here : (c : tie.In-loop Inv-loop μ-loop)
+    → let a = start (numbers c) .args in Sample (a .layout) (a .b) (a .r) (a .c + c .before .loop .done)
 here c =
     let p = start (numbers c) .pre .1 in
     record { in-b = p .0 .in-b; in-r = p .0 .in-r; in-c = omega (arith, p .1 .0, c .loop-test .taken) }
 
--- where the samples that it puts go, and where they are
-in-image : (c : tie.After-run-from Inv-loop μ-loop)
-    → let a = start (numbers (c .before)) .args in
-    Movable (length (c .before .before .loop .image)) (c .run-from .result .at) (columnStride (a .layout .mode) (a .layout)) (a .layout .nbpp) (sampleBytes (a .layout)) (c .run-from .result .count)
-in-image c =
-    let s = start (numbers (c .before)) in
-    run-movable (s .args .layout) (s .pre .0 .accepted) _ _ _ _ _ _ (here (c .before)) (omega (arith, s .pre .1 .1 .0, c .before .loop-test .taken))
-    (omega (arith, s .pre .0 .image-holds, c .before .before .loop .inv .1 .size)) (c .run-from .ensures)
-
+-- where the samples that it puts are
 in-dat : (c : tie.After-run-from Inv-loop μ-loop)
     → let n = numbers (c .before) in
-    start n .args .from + c .before .before .loop .done * n .before .sample-bytes .result + c .run-from .result .count * n .before .sample-bytes .result ≤ length (now (start n .args .dat))
+    let a = start n .args in
+    let size = n .before .sample-bytes .result in
+    a .from + c .before .before .loop .done * size + c .run-from .result .count * size ≤ length (now (a .dat))
 in-dat c =
     let n = numbers (c .before) in
     let s = start n in
     let t = s .pre .1 .0 in
-    in-line _ _ _ _ (s .args .count) _ (n .before .sample-bytes .ensures) (omega (arith, c .run-from .ensures .count-le, c .before .loop-test .taken))
-    (omega (arith, s .pre .1 .1 .1, data-end _ _ _ (s .pre .0) _ _ _ (s .args .count) (t .in-b) (t .in-r) (s .pre .1 .1 .0)))
+    let end = data-end _ _ _ (s .pre .0) _ _ _ (s .args .count) (t .in-b) (t .in-r) (s .pre .1 .1 .0) in
+    in-line _ _ _ _ (s .args .count) _ (n .before .sample-bytes .ensures)
+    (omega (arith, c .run-from .ensures .count-le, c .before .loop-test .taken)) (omega (arith, s .pre .1 .1 .1))
 
 -- the turn at whose end the loop goes on
 abbrev turn : tie.After-struct-known2 Inv-loop μ-loop → tie.After-run-from Inv-loop μ-loop
@@ -98,7 +94,11 @@ add-write-samples c = omega (arith, in-dat c)
 write-samples-requires : tie.Need-write-samples-requires Inv-loop μ-loop
 write-samples-requires c κs =
     let n = numbers (c .before .before) in
-    let q = can-read _ _ _ _ _ _ (n .before .sample-bytes .ensures) (step-is n) (sample-size _ (start n .pre .0 .accepted)) (in-image (c .before)) in
+    let w = start n .pre .0 in
+    let h = c .before .before .before .loop in
+    let e = h .inv .1 .size in
+    let m = c .before .run-from .ensures .movable (length (h .image)) (omega (arith, w .image-holds)) in
+    let q = can-move _ _ _ _ _ _ (n .before .sample-bytes .ensures) (step-is n) (sample-size _ (w .accepted)) m in
     ((q .0 .0, q .0 .1, in-dat (c .before)), (q .1, (q .2, q .3)))
 
 add-done : tie.Need-add-done Inv-loop μ-loop
@@ -116,8 +116,11 @@ loop-again c =
     let a = s .args in (
       omega (arith, run .run-from .ensures .count-le, run .before .loop-test .taken),
       row-then _ (a .b) (a .r) (a .c) _ _ (head .loop .inv .1)
-          (run-put (a .layout) (s .pre .0 .accepted) (now (a .dat)) (a .b) (a .r) (a .c) (head .loop .done) _ _ (here (run .before)) (omega (arith, s .pre .1 .1 .0, run .before .loop-test .taken))
-          (omega (arith, s .pre .0 .image-holds, head .loop .inv .1 .size)) (s .pre .1 .1 .1) (n .before .sample-bytes .ensures) (step-is n) (run .run-from .ensures) (c .before .before .before .write-samples .ensures)),
+          (run-put (a .layout) (s .pre .0 .accepted) (now (a .dat)) (a .b) (a .r) (a .c) (head .loop .done) _ _
+          (here (run .before)) (omega (arith, s .pre .1 .1 .0, run .before .loop-test .taken))
+          (omega (arith, s .pre .0 .image-holds, head .loop .inv .1 .size)) (s .pre .1 .1 .1)
+          (n .before .sample-bytes .ensures) (step-is n) (run .run-from .ensures)
+          (c .before .before .before .write-samples .ensures)),
     )
 
 same-length : tie.Need-same-length Inv-loop μ-loop
@@ -131,21 +134,6 @@ returns c =
 pub put-row-spec : {M : Type 1} → statement M
 put-row-spec =
     tie.close
-    (tie.spec
-    Inv-loop
-    μ-loop
-    cast-width
-    sample-bytes-requires
-    strides-requires
-    loop-holds
-    add-run-from
-    sub-run-from
-    run-from-requires
-    mul-write-samples
-    add-write-samples
-    write-samples-requires
-    add-done
-    loop-less
-    loop-again
-    same-length
-    returns)
+    (tie.spec Inv-loop μ-loop cast-width sample-bytes-requires strides-requires loop-holds add-run-from sub-run-from
+    run-from-requires mul-write-samples add-write-samples write-samples-requires add-done loop-less loop-again
+    same-length returns)

@@ -10,20 +10,20 @@ use Rattle.common.specs.Over.{over}
 use Rattle.bits.specs.Values.{values}
 use Rattle.samples.specs.Internal.Samples.{spaced}
 use Rattle.bits.proofs.Values.{values-none, values-run}
-use Rattle.rows.specs.Internal.Rows.{Movable}
 use Rattle.layout.specs.declared.Strides.{Strides}
-use Rattle.layout.specs.Internal.Layout.{sampleBytes, Sample}
+use Rattle.layout.specs.Internal.Layout.{Sample}
 use Rattle.layout.specs.Internal.Spacing.{columnStride}
 use Rattle.layout.proofs.Places.{sample-size}
 use Rattle.layout.proofs.Spaced.{strides-fit}
 use Rattle.moves.specs.Internal.Parts.{sampleAt}
-use Rattle.moves.proofs.Pieces.{run-movable, run-number, in-line, can-read}
+use Rattle.moves.proofs.Pieces.{run-number, in-line, can-move}
 use Rattle.moves.proofs.runs.read_row.Statement.{statement}
 use Rattle.moves.proofs.runs.read_row.Tie as tie
 
 abbrev Inv-loop : tie.InvT-loop
 Inv-loop src layout b r c count out₀ to width size step done₀ out done =
-    (done ≤ count) × (length out ≡ length out₀) × (out ≡ over out₀ to (values (λ j. sampleAt layout src b r (c + j)) size done))
+    (done ≤ count) × (length out ≡ length out₀)
+    × (out ≡ over out₀ to (values (λ j. sampleAt layout src b r (c + j)) size done))
 
 abbrev μ-loop : tie.MeasureT-loop
 μ-loop src layout b r c count out₀ to width size step done₀ out done = count - done
@@ -35,26 +35,23 @@ numbers c = c .before .before
 abbrev start : tie.After-strides Inv-loop μ-loop → tie.Start Inv-loop μ-loop
 start c = c .before .before .before .before .before
 
-step-is : (c : tie.After-strides Inv-loop μ-loop) → let l = start c .args .layout in c .strides .result .column ≡ columnStride (l .mode) l
+step-is : (c : tie.After-strides Inv-loop μ-loop) → let l =
+    start c .args .layout in c .strides .result .column ≡ columnStride (l .mode) l
 step-is c = ap (λ (s : Strides). s .column) (c .strides .ensures)
 
 -- the sample that a turn begins with
-here : (c : tie.In-loop Inv-loop μ-loop) → let a = start (numbers c) .args in Sample (a .layout) (a .b) (a .r) (a .c + c .before .loop .done)
+here : (c : tie.In-loop Inv-loop μ-loop)
+    → let a = start (numbers c) .args in Sample (a .layout) (a .b) (a .r) (a .c + c .before .loop .done)
 here c =
     let p = start (numbers c) .pre in
     record { in-b = p .1 .0 .in-b; in-r = p .1 .0 .in-r; in-c = omega (arith, p .1 .1 .0 .0, c .loop-test .taken) }
 
--- the samples that it reads, and where they go
-in-image : (c : tie.After-run-from Inv-loop μ-loop)
-    → let a = start (numbers (c .before)) .args in
-    Movable (length (now (a .src))) (c .run-from .result .at) (columnStride (a .layout .mode) (a .layout)) (a .layout .nbpp) (sampleBytes (a .layout)) (c .run-from .result .count)
-in-image c =
-    let s = start (numbers (c .before)) in
-    run-movable (s .args .layout) (s .pre .0) _ _ _ _ _ _ (here (c .before)) (omega (arith, s .pre .1 .1 .0 .0, c .before .loop-test .taken)) (s .pre .1 .1 .0 .1) (c .run-from .ensures)
-
+-- where the samples that it reads go
 in-out : (c : tie.After-run-from Inv-loop μ-loop)
     → let n = numbers (c .before) in
-    start n .args .to + c .before .before .loop .done * n .before .sample-bytes .result + c .run-from .result .count * n .before .sample-bytes .result ≤ length (now (start n .args .out))
+    let a = start n .args in
+    let size = n .before .sample-bytes .result in
+    a .to + c .before .before .loop .done * size + c .run-from .result .count * size ≤ length (now (a .out))
 in-out c =
     let n = numbers (c .before) in
     in-line _ _ _ _ _ _ (n .before .sample-bytes .ensures)
@@ -96,7 +93,9 @@ add-read-samples c = omega (arith, in-out (c .before))
 read-samples-requires : tie.Need-read-samples-requires Inv-loop μ-loop
 read-samples-requires c κs =
     let n = numbers (c .before .before) in
-    let q = can-read _ _ _ _ _ _ (n .before .sample-bytes .ensures) (step-is n) (sample-size _ (start n .pre .0)) (in-image (c .before)) in
+    let p = start n .pre in
+    let m = c .before .run-from .ensures .movable _ (p .1 .1 .0 .1) in
+    let q = can-move _ _ _ _ _ _ (n .before .sample-bytes .ensures) (step-is n) (sample-size _ (p .0)) m in
     (q .0, (q .1, (q .2, q .3, omega (arith, in-out (c .before), c .before .before .before .loop .inv .1))))
 
 add-done : tie.Need-add-done Inv-loop μ-loop
@@ -115,8 +114,10 @@ loop-again c =
       omega (arith, run .run-from .ensures .count-le, run .before .loop-test .taken),
       omega (arith, call .kept, head .loop .inv .1),
       values-run (λ j. sampleAt (a .layout) (now (a .src)) (a .b) (a .r) (a .c + j))
-          (spaced (now (a .src)) (run .run-from .result .at) (n .strides .result .column) (a .layout .nbpp)) _ _ _ _ _ (in-out run) (head .loop .inv .2) (call .ensures)
-          (λ j l. run-number (a .layout) (now (a .src)) (a .b) (a .r) (a .c) (head .loop .done) _ _ j (step-is n) (run .run-from .ensures) l),
+          (spaced (now (a .src)) (run .run-from .result .at) (n .strides .result .column) (a .layout .nbpp)) _ _ _ _ _
+          (in-out run) (head .loop .inv .2) (call .ensures)
+          (λ j l. run-number (a .layout) (now (a .src)) (a .b) (a .r) (a .c) (head .loop .done) _ _ j (step-is n)
+          (run .run-from .ensures) l),
     )
 
 same-length : tie.Need-same-length Inv-loop μ-loop
@@ -131,21 +132,6 @@ returns c =
 pub read-row-spec : {M : Type 1} → statement M
 read-row-spec =
     tie.close
-    (tie.spec
-    Inv-loop
-    μ-loop
-    cast-width
-    sample-bytes-requires
-    strides-requires
-    loop-holds
-    add-run-from
-    sub-run-from
-    run-from-requires
-    mul-read-samples
-    add-read-samples
-    read-samples-requires
-    add-done
-    loop-less
-    loop-again
-    same-length
-    returns)
+    (tie.spec Inv-loop μ-loop cast-width sample-bytes-requires strides-requires loop-holds add-run-from sub-run-from
+    run-from-requires mul-read-samples add-read-samples read-samples-requires add-done loop-less loop-again
+    same-length returns)

@@ -6,7 +6,8 @@ use Rattle.moves.proofs.spacing.both_sides.Statement.{statement}
 use Rattle.moves.proofs.spacing.both_sides.Tie as tie
 
 -- the numbers of the planes fit
-planes-fit : (c : tie.After-sample-bytes) → let a = c .before .args in PlanesFit (a .part) (a .rows) (a .columns) (c .sample-bytes .result)
+planes-fit : (c : tie.After-sample-bytes) → let a =
+    c .before .args in PlanesFit (a .part) (a .rows) (a .columns) (c .sample-bytes .result)
 planes-fit c = rw (c .sample-bytes .ensures) (c .before .pre .1 .1)
 
 sample-bytes-requires : tie.Need-sample-bytes-requires
@@ -38,19 +39,14 @@ mul-t14 c = record { fits = planes-fit (c .before .before .before .before) .row 
 
 returns : tie.Need-returns
 returns c =
-    rw (c .before .before .sample-place .ensures, c .before .before .before .strides .ensures, c .before .before .before .before .sample-bytes .ensures)
+    rw (
+      c .before .before .sample-place .ensures,
+      c .before .before .before .strides .ensures,
+      c .before .before .before .before .sample-bytes .ensures,
+    )
 
 pub both-sides-spec : {M : Type 1} → statement M
 both-sides-spec =
     tie.close
-    (tie.spec
-    sample-bytes-requires
-    strides-requires
-    sample-place-requires
-    mul-t9
-    add-t10
-    mul-t11
-    mul-t12
-    mul-t13
-    mul-t14
-    returns)
+    (tie.spec sample-bytes-requires strides-requires sample-place-requires mul-t9 add-t10 mul-t11 mul-t12 mul-t13
+    mul-t14 returns)

@@ -23,7 +23,8 @@ run-in : (f a t n k m : ℕ) → k < n → f + (n - 1) * a + t ≤ m → f + k *
 run-in f a t n k m h l = omega (arith, mul-le-mul-right {m = k} {n = n - 1} a (omega arith))
 
 abbrev Inv-loop : tie.InvT-loop
-Inv-loop image₀ bands first apart t i₀ image i = (i ≤ bands) × (length image ≡ length image₀) × (image ≡ iter i (cleared first apart t) image₀)
+Inv-loop image₀ bands first apart t i₀ image i =
+    (i ≤ bands) × (length image ≡ length image₀) × (image ≡ iter i (cleared first apart t) image₀)
 
 abbrev μ-loop : tie.MeasureT-loop
 μ-loop image₀ bands first apart t i₀ image i = bands - i
@@ -35,7 +36,8 @@ inside : (c : tie.In-loop Inv-loop μ-loop)
 inside c =
     let s = c .before .before .before .before in
     let l = s .args .layout in
-    run-in (l .first) (l .apart) (l .«run_bytes») (l .bands) (c .before .loop .i) (length (c .before .loop .image)) (c .loop-test .taken) (omega (arith, s .pre .1, c .before .loop .inv .1))
+    run-in (l .first) (l .apart) (l .«run_bytes») (l .bands) (c .before .loop .i) (length (c .before .loop .image))
+    (c .loop-test .taken) (omega (arith, s .pre .1, c .before .loop .inv .1))
 
 cast-bands : tie.Need-cast-bands Inv-loop μ-loop
 cast-bands c = search needs
@@ -62,8 +64,12 @@ loop-again : tie.Need-loop-again Inv-loop μ-loop
 loop-again c =
     let h = c .before .before .before .before .before in
     let a = h .before .before .before .args in
-    let call = c .before .before .clear-bytes in
-    (omega arith, omega (arith, call .kept, h .loop .inv .1), iter-turn (cleared (a .layout .first) (a .layout .apart) (a .layout .«run_bytes»)) _ (h .loop .i) (h .loop .inv .2) (call .ensures))
+    let call = c .before .before .clear-bytes in (
+      omega arith,
+      omega (arith, call .kept, h .loop .inv .1),
+      iter-turn (cleared (a .layout .first) (a .layout .apart)
+          (a .layout .«run_bytes»)) _ (h .loop .i) (h .loop .inv .2) (call .ensures),
+    )
 
 same-length : tie.Need-same-length Inv-loop μ-loop
 same-length c = c .before .loop .inv .1
@@ -77,16 +83,5 @@ returns c =
 pub clear-runs-spec : {M : Type 1} → statement M
 clear-runs-spec =
     tie.close
-    (tie.spec
-    Inv-loop
-    μ-loop
-    cast-bands
-    loop-holds
-    mul-clear-bytes
-    add-clear-bytes
-    clear-bytes-requires
-    add-i
-    loop-less
-    loop-again
-    same-length
-    returns)
+    (tie.spec Inv-loop μ-loop cast-bands loop-holds mul-clear-bytes add-clear-bytes clear-bytes-requires add-i
+    loop-less loop-again same-length returns)

@@ -1,7 +1,7 @@
 -- `moves::store::put_block` meets its contract: the samples of k pieces are put.
 -- Assumes nothing.
 use borrow.Author.Needs.{needs}
-use mathlib.Core.Path.{_≡_, refl, ap, _∙_}
+use mathlib.Core.Path.{_≡_, ap, _∙_}
 use Prim.Native.Nat.{_-_, _^_, _≤_, _<_}
 use native.Mathlib.Omega.{arith}
 use denote.Ref.{now}
@@ -15,7 +15,7 @@ use Rattle.moves.proofs.Stored.{put-done}
 use Rattle.moves.proofs.StoreBounds.{stays-writable}
 use Rattle.layout.proofs.Places.{data-fits}
 use Rattle.moves.proofs.StorePieces.{whole-planes}
-use Rattle.moves.proofs.Orders.{PiecesBefore, OrderOf, no-piece, piece-turn, pieces-done, order-of, pieces-fit, piece-inside, piece-way}
+use Rattle.moves.proofs.Orders.{PiecesBefore, no-piece, piece-turn, pieces-done, pieces-fit, piece-inside, piece-way}
 use Rattle.moves.proofs.store.put_block.Statement.{statement}
 use Rattle.moves.proofs.store.put_block.Tie as tie
 
@@ -33,11 +33,6 @@ numbers c = c .before .before .before
 abbrev start : tie.After-both-sides Inv-loop μ-loop → tie.Start Inv-loop μ-loop
 start c = c .before .before .before .before .before .before
 
--- the order is one of the block's samples
-order-is : (c : tie.After-both-sides Inv-loop μ-loop)
-    → let a = start c .args in OrderOf (imageTarget (a .layout) (dataAt (a .layout) (now (a .dat)))) (c .before .before .choose .result)
-order-is c = order-of _ _ _ _ _ _ (c .before .before .choose .ensures) _ refl refl refl
-
 in-dat : (s : tie.Start Inv-loop μ-loop) → length (now (s .args .dat)) < 2 ^ 64
 in-dat s = omega arith
 
@@ -45,7 +40,8 @@ cast-choose : tie.Need-cast-choose Inv-loop μ-loop
 cast-choose c = search needs
 
 choose-requires : tie.Need-choose-requires Inv-loop μ-loop
-choose-requires c κs = let f = c .before .before .before .pre .accepted in (f, (f .some-bands, f .some-rows, f .some-columns))
+choose-requires c κs =
+    let f = c .before .before .before .pre .accepted in (f, (f .some-bands, f .some-rows, f .some-columns))
 
 whole-part-requires : tie.Need-whole-part-requires Inv-loop μ-loop
 whole-part-requires c κs = search needs
@@ -54,30 +50,38 @@ both-sides-requires : tie.Need-both-sides-requires Inv-loop μ-loop
 both-sides-requires c κs =
     let s = c .before .before .before .before .before in
     let f = s .pre .accepted in
+    let fit = whole-planes _ _ _ (s .pre) (in-dat s) in
     rw (c .whole-part .ensures)
-    (f, (record { in-b = f .some-bands; in-r = f .some-rows; in-c = f .some-columns }, whole-planes _ _ _ (s .pre) (in-dat s)))
+    (f, (record { in-b = f .some-bands; in-r = f .some-rows; in-c = f .some-columns }, fit))
 
 pieces-requires : tie.Need-pieces-requires Inv-loop μ-loop
 pieces-requires c κs =
     let f = start c .pre .accepted in
-    pieces-fit _ _ _ _ _ _ (c .before .before .choose .ensures) (data-fits _ f .samples) (f .some-bands)
+    pieces-fit (c .before .before .choose .ensures) (data-fits _ f .samples) (f .some-bands)
 
 loop-holds : tie.Need-loop-holds Inv-loop μ-loop
 loop-holds c = (omega arith, no-piece _ (c .before .before .before .choose .result) _)
 
 piece-requires : tie.Need-piece-requires Inv-loop μ-loop
-piece-requires c κs = (order-is (numbers (c .before)) .right, omega (arith, c .before .loop-test .taken, c .before .before .before .pieces .ensures))
+piece-requires c κs =
+    let turn = c .before in
+    let right = numbers turn .before .before .choose .ensures .right in
+    (right, omega (arith, turn .loop-test .taken, turn .before .before .pieces .ensures))
 
 store-piece-requires : tie.Need-store-piece-requires Inv-loop μ-loop
 store-piece-requires c κs =
     let turn = c .before .before in
     let n = numbers turn in
     let s = start n in
+    let l = s .args .layout in
     let chosen = n .before .before .choose .ensures in
-    let h : turn .before .loop .k < pieceCount (n .before .before .choose .result) = omega (arith, turn .loop-test .taken, turn .before .before .pieces .ensures) in (
-      n .both-sides .ensures ∙ ap (λ (x : Part). sidesOf (s .args .layout) x (s .args .layout .rows) (s .args .layout .columns)) (n .before .whole-part .ensures),
-      (stays-writable (s .pre) (turn .before .loop .inv .1 .size), (piece-inside _ _ _ _ _ _ chosen _ h (c .piece .ensures), piece-way _ _ _ _ _ _ chosen _ h (c .piece .ensures))),
-    )
+    let h : turn .before .loop .k < pieceCount (n .before .before .choose .result)
+    = omega (arith, turn .loop-test .taken, turn .before .before .pieces .ensures) in
+    let whole = ap (λ (x : Part). sidesOf l x (l .rows) (l .columns)) (n .before .whole-part .ensures) in
+    let w = stays-writable (s .pre) (turn .before .loop .inv .1 .size) in
+    let inside = piece-inside chosen _ h (c .piece .ensures) in
+    let way = piece-way chosen _ h (c .piece .ensures) in
+    (n .both-sides .ensures ∙ whole, (w, (inside, way)))
 
 add-k : tie.Need-add-k Inv-loop μ-loop
 add-k c = omega arith
@@ -89,7 +93,10 @@ loop-again : tie.Need-loop-again Inv-loop μ-loop
 loop-again c =
     let piece = c .before .before .before in
     let turn = piece .before .before in
-    (omega (arith, turn .loop-test .taken), piece-turn _ _ (order-is (numbers turn)) _ (piece .piece .ensures) (turn .before .loop .inv .1) (c .before .before .store-piece .ensures))
+    let chosen = numbers turn .before .before .choose .ensures in
+    let put = c .before .before .store-piece .ensures in
+    let puts = piece-turn _ chosen _ (piece .piece .ensures) (turn .before .loop .inv .1) put in
+    (omega (arith, turn .loop-test .taken), puts)
 
 same-length : tie.Need-same-length Inv-loop μ-loop
 same-length c = c .before .loop .inv .1 .size
@@ -99,26 +106,14 @@ unfolding putBlock
 returns c =
     let n = c .before .before .before in
     let w = start n .pre in
-    let e : c .before .loop .k ≡ pieceCount (n .before .before .choose .result) = omega (arith, c .before .before .pieces .ensures) in
-    put-done _ (w .accepted) _ (λ i. n .before .before .before .before .before .slice-known .given i .fits) (w .image-holds) (c .before .loop .inv .1)
-    (λ b r k t. pieces-done _ _ (order-is n) (c .before .loop .k) e b r k (record { in-b = t .in-b; in-r = t .in-r; in-c = t .in-c }))
+    let e : c .before .loop .k ≡ pieceCount (n .before .before .choose .result)
+    = omega (arith, c .before .before .pieces .ensures) in
+    let bytes = n .before .before .before .before .before .slice-known in
+    let all = pieces-done _ (n .before .before .choose .ensures) (c .before .loop .k) e in
+    put-done _ (w .accepted) _ (λ i. bytes .given i .fits) (w .image-holds) (c .before .loop .inv .1) all
 
 pub put-block-spec : {M : Type 1} → statement M
 put-block-spec =
     tie.close
-    (tie.spec
-    Inv-loop
-    μ-loop
-    cast-choose
-    choose-requires
-    whole-part-requires
-    both-sides-requires
-    pieces-requires
-    loop-holds
-    piece-requires
-    store-piece-requires
-    add-k
-    loop-less
-    loop-again
-    same-length
-    returns)
+    (tie.spec Inv-loop μ-loop cast-choose choose-requires whole-part-requires both-sides-requires pieces-requires
+    loop-holds piece-requires store-piece-requires add-k loop-less loop-again same-length returns)

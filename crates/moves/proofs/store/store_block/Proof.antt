@@ -17,14 +17,16 @@ use Rattle.moves.proofs.store.store_block.Tie as tie
 cleared : (c : tie.Joined1)
     → let a = c .before .before .before .before .args in
     (length (c .if1 .image) ≡ length (now (a .image)))
-    × (putBlock (a .layout) (now (a .«data»)) (c .if1 .image) ≡ storeBlock (a .layout) (now (a .«data»)) (now (a .image)))
+    × (putBlock (a .layout) (now (a .«data»)) (c .if1 .image) ≡ storeBlock (a .layout) (now (a .«data»))
+    (now (a .image)))
 unfolding storeBy
 cleared c =
     let a = c .before .before .before .before .args in
     ⊎-elim
     (λ w. (
       omega (arith, ap length (w .5), w .2 .kept),
-      rw (no (c .before .is-byte-multiple .ensures) (w .0 .taken)) (ap (putBlock (a .layout) (now (a .«data»))) (w .5 ∙ w .2 .ensures)),
+      rw (no (c .before .is-byte-multiple .ensures) (w .0 .taken)) (ap (putBlock (a .layout) (now (a .«data»))) (w .5
+          ∙ w .2 .ensures)),
     ))
     (λ w. (
       ap length (w .1),
@@ -37,8 +39,11 @@ is-byte-multiple-requires c κs = search needs
 
 clear-runs-requires : tie.Need-clear-runs-requires
 clear-runs-requires c κs =
-    let w = c .before .before .before .before .before .pre in
-    (w .accepted, rw (end-packed _ (no (c .before .before .is-byte-multiple .ensures) (c .before .if1 .taken))) at (w .image-holds))
+    let w = c .before .before .before .before .before .pre in (
+      w .accepted,
+      rw (end-packed _ (no (c .before .before .is-byte-multiple .ensures) (c .before .if1 .taken))) at
+          (w .image-holds),
+    )
 
 put-block-requires : tie.Need-put-block-requires
 put-block-requires c κs = stays-writable (c .before .before .before .before .before .pre) (cleared (c .before) .0)

@@ -61,22 +61,7 @@ returns-6 c = search needs
 pub gather-listed-spec : {M : Type 1} → statement M
 gather-listed-spec =
     tie.close
-    (tie.spec
-    gather-listed-any-requires
-    gather-listed-any-requires-2
-    gather-listed-any-requires-3
-    gather-listed-any-requires-4
-    gather-listed-any-requires-5
-    gather-listed-any-requires-6
-    same-length
-    returns
-    same-length-2
-    returns-2
-    same-length-3
-    returns-3
-    same-length-4
-    returns-4
-    same-length-5
-    returns-5
-    same-length-6
+    (tie.spec gather-listed-any-requires gather-listed-any-requires-2 gather-listed-any-requires-3
+    gather-listed-any-requires-4 gather-listed-any-requires-5 gather-listed-any-requires-6 same-length returns
+    same-length-2 returns-2 same-length-3 returns-3 same-length-4 returns-4 same-length-5 returns-5 same-length-6
     returns-6)

@@ -21,16 +21,20 @@ abbrev μ-loop : tie.MeasureT-loop
 μ-loop src at pixel band size list count out₀ to plane c₀ out c = count - c
 
 -- in a turn: pixel c ends within the pixels
-ends-in : (c : tie.In-loop Inv-loop μ-loop) → let a = c .before .before .before .before .before .args in Ends (c .before .loop .c) (a .count) (a .pixel) (a .size)
-ends-in c = let a = c .before .before .before .before .before .args in ends (c .before .loop .c) (a .count) (a .pixel) (a .size) (c .loop-test .taken)
+ends-in : (c : tie.In-loop Inv-loop μ-loop) → let a =
+    c .before .before .before .before .before .args in Ends (c .before .loop .c) (a .count) (a .pixel) (a .size)
+ends-in c =
+    let a = c .before .before .before .before .before .args in ends (c .before .loop .c) (a .count) (a .pixel)
+    (a .size) (c .loop-test .taken)
 
 -- and there is a band
 some : (c : tie.In-loop Inv-loop μ-loop)
     → let a = c .before .before .before .before .before .args in
-    (a .at + a .count * a .pixel ≤ length (now (a .src)) + a .pixel) × (1 * a .plane ≤ length (now (a .list)) * a .plane)
+    (a .at + a .count * a .pixel ≤ length (now (a .src)) + a .pixel)
+    × (1 * a .plane ≤ length (now (a .list)) * a .plane)
 some c =
     let s = c .before .before .before .before .before in
-    (omega (arith, s .pre .2 0 (s .pre .1)), mul-le-mul-right (s .args .plane) (s .pre .1))
+    (omega (arith, s .pre .inside 0 (s .pre .some)), mul-le-mul-right (s .args .plane) (s .pre .some))
 
 loop-holds : tie.Need-loop-holds Inv-loop μ-loop
 loop-holds c = (omega arith, refl, iter-none _ _)
@@ -51,7 +55,12 @@ gather-pixel-requires : tie.Need-gather-pixel-requires Inv-loop μ-loop
 gather-pixel-requires c κs =
     let turn = c .before in
     let s = turn .before .before .before .before .before in
-    (s .pre .0, λ k h. omega (arith, s .pre .2 k h, ends-in turn), omega (arith, s .pre .3, ends-in turn))
+    record {
+      size-le = s .pre .size-le;
+      some = s .pre .some;
+      inside = λ k h. omega (arith, s .pre .inside k h, ends-in turn);
+      room = omega (arith, s .pre .room, ends-in turn);
+    }
 
 add-c : tie.Need-add-c Inv-loop μ-loop
 add-c c = omega arith
@@ -66,29 +75,20 @@ loop-again c =
     let a = head .before .before .before .before .args in (
       omega arith,
       omega (arith, call .gather-pixel .kept),
-      iter-turn (pixelRead (now (a .src)) (now (a .list)) (a .at) (a .pixel) (a .band) (a .size) (a .to) (a .plane)) (now (a .out)) (head .loop .c) (head .loop .inv .2) (call .gather-pixel .ensures),
+      iter-turn (pixelRead (now (a .src)) (now (a .list)) (a .at) (a .pixel) (a .band) (a .size) (a .to) (a .plane))
+          (now (a .out)) (head .loop .c) (head .loop .inv .2) (call .gather-pixel .ensures),
     )
 
 same-length : tie.Need-same-length Inv-loop μ-loop
 same-length c = c .before .loop .inv .1
 
 returns : tie.Need-returns Inv-loop μ-loop
-returns c = let e : c .before .loop .c ≡ c .before .before .before .before .before .args .count = omega arith in c .before .loop .inv .2 ∙ rw e
+returns c =
+    let e : c .before .loop .c ≡ c .before .before .before .before .before .args .count
+    = omega arith in c .before .loop .inv .2 ∙ rw e
 
 pub gather-listed-any-spec : {M : Type 1} → statement M
 gather-listed-any-spec =
     tie.close
-    (tie.spec
-    Inv-loop
-    μ-loop
-    loop-holds
-    mul-gather-pixel
-    add-gather-pixel
-    mul-gather-pixel-2
-    add-gather-pixel-2
-    gather-pixel-requires
-    add-c
-    loop-less
-    loop-again
-    same-length
-    returns)
+    (tie.spec Inv-loop μ-loop loop-holds mul-gather-pixel add-gather-pixel mul-gather-pixel-2 add-gather-pixel-2
+    gather-pixel-requires add-c loop-less loop-again same-length returns)

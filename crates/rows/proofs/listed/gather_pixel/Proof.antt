@@ -34,14 +34,21 @@ loop-holds c = (omega arith, refl, iter-none _ _)
 in-src : (c : tie.After-shared-slice-known3 Inv-loop μ-loop)
     → let a = c .before .before .before .before .before .before .args in
     a .at + getD (now (a .list)) (c .before .before .loop .k) 0 * a .band + a .size ≤ length (now (a .src))
-in-src c = c .before .before .before .before .before .before .pre .1 (c .before .before .loop .k) (omega (arith, c .before .loop-test .taken))
+in-src c =
+    let s = c .before .before .before .before .before .before in
+    omega (arith, s .pre .inside (c .before .before .loop .k) (omega (arith, c .before .loop-test .taken)))
 
 in-out : (c : tie.After-shared-slice-known3 Inv-loop μ-loop)
     → let a = c .before .before .before .before .before .before .args in
     a .to + c .before .before .loop .k * a .plane + a .size ≤ length (now (a .out))
 in-out c =
     let s = c .before .before .before .before .before .before in
-    omega (arith, s .pre .2, within (c .before .before .loop .k) (length (now (s .args .list))) (s .args .plane) (omega (arith, c .before .loop-test .taken)))
+    omega (
+      arith,
+      s .pre .room,
+      within (c .before .before .loop .k) (length (now (s .args .list))) (s .args .plane)
+          (omega (arith, c .before .loop-test .taken)),
+    )
 
 mul-get-be : tie.Need-mul-get-be Inv-loop μ-loop
 mul-get-be c = search needs
@@ -59,7 +66,7 @@ add-get-be : tie.Need-add-get-be Inv-loop μ-loop
 add-get-be c = omega (arith, in-src c)
 
 get-be-requires : tie.Need-get-be-requires Inv-loop μ-loop
-get-be-requires c κs = (c .before .before .before .before .before .before .pre .0, in-src c)
+get-be-requires c κs = (c .before .before .before .before .before .before .pre .size-le, in-src c)
 
 mul-put-be : tie.Need-mul-put-be Inv-loop μ-loop
 mul-put-be c = omega (arith, in-out (c .before .before))
@@ -68,7 +75,11 @@ add-put-be : tie.Need-add-put-be Inv-loop μ-loop
 add-put-be c = omega (arith, in-out (c .before .before))
 
 put-be-requires : tie.Need-put-be-requires Inv-loop μ-loop
-put-be-requires c κs = (c .before .before .before .before .before .before .before .before .pre .0, omega (arith, in-out (c .before .before)))
+put-be-requires c κs = (
+  c .before .before .before .before .before .before .before .before .pre .size-le,
+  omega
+      (arith, in-out (c .before .before)),
+)
 
 add-k : tie.Need-add-k Inv-loop μ-loop
 add-k c = omega arith
@@ -84,34 +95,22 @@ loop-again c =
     let a = head .before .before .before .before .args in (
       omega arith,
       omega (arith, call .put-be .kept),
-      iter-turn (sampleRead (now (a .src)) (now (a .list)) (a .at) (a .band) (a .size) (a .to) (a .plane)) (now (a .out)) (head .loop .k) (head .loop .inv .2)
-          (call .put-be .ensures ∙ ap (over (head .loop .out) (a .to + head .loop .k * a .plane)) (ap (beBytes (a .size)) (call .before .before .get-be .ensures) ∙ one-value _ (a .size))),
+      iter-turn (sampleRead (now (a .src)) (now (a .list)) (a .at) (a .band) (a .size) (a .to) (a .plane))
+          (now (a .out)) (head .loop .k) (head .loop .inv .2)
+          (call .put-be .ensures ∙ ap (over (head .loop .out) (a .to + head .loop .k * a .plane))
+          (ap (beBytes (a .size)) (call .before .before .get-be .ensures) ∙ one-value _ (a .size))),
     )
 
 same-length : tie.Need-same-length Inv-loop μ-loop
 same-length c = c .before .loop .inv .1
 
 returns : tie.Need-returns Inv-loop μ-loop
-returns c = let e : c .before .loop .k ≡ length (now (c .before .before .before .before .before .args .list)) = omega arith in c .before .loop .inv .2 ∙ rw e
+returns c =
+    let e : c .before .loop .k ≡ length (now (c .before .before .before .before .before .args .list))
+    = omega arith in c .before .loop .inv .2 ∙ rw e
 
 pub gather-pixel-spec : {M : Type 1} → statement M
 gather-pixel-spec =
     tie.close
-    (tie.spec
-    Inv-loop
-    μ-loop
-    loop-holds
-    mul-get-be
-    shared-slice-read-get-be
-    cast-get-be
-    mul-get-be-2
-    add-get-be
-    get-be-requires
-    mul-put-be
-    add-put-be
-    put-be-requires
-    add-k
-    loop-less
-    loop-again
-    same-length
-    returns)
+    (tie.spec Inv-loop μ-loop loop-holds mul-get-be shared-slice-read-get-be cast-get-be mul-get-be-2 add-get-be
+    get-be-requires mul-put-be add-put-be put-be-requires add-k loop-less loop-again same-length returns)

@@ -4,8 +4,8 @@ use Rattle.moves.proofs.Orders.{Parts, parts, part-starts}
 use Rattle.moves.proofs.order.Order.piece.Statement.{statement}
 use Rattle.moves.proofs.order.Order.piece.Tie as tie
 
-known : (s : tie.Start) → Parts (s .args .self) (s .pre .0) (s .args .k)
-known s = parts (s .args .self) (s .pre .0) (s .args .k) (s .pre .1)
+known : (s : tie.Start) → Parts (s .args .self) (s .args .k)
+known s = parts (s .args .self) (s .args .k) (s .pre .1)
 
 div-rest : tie.Need-div-rest
 div-rest c = known (c .before .before .before .before) .some-bands
@@ -15,7 +15,8 @@ rem-part c = known (c .before .before .before .before .before) .some-bands
 
 part-requires : tie.Need-part-requires
 part-requires c κs =
-    let s = c .before .before .before .before .before in part-starts (s .args .self .bands) (s .pre .0 .bands-cut) _ (known s .in-bands)
+    let s = c .before .before .before .before .before in part-starts (s .args .self .bands) (s .pre .0 .bands-cut) _
+    (known s .in-bands)
 
 div-part : tie.Need-div-part
 div-part c = known (c .before .before .before .before .before .before .before) .some-columns

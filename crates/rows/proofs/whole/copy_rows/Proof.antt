@@ -1,4 +1,5 @@
--- `rows::copy::copy_rows` meets its contract: rows that follow each other are one, and else the first i rows are copied.
+-- `rows::whole::copy_rows` meets its contract: rows that follow each other are one, and else the first i rows are
+-- copied.
 -- Assumes nothing.
 use borrow.Author.Needs.{needs}
 use mathlib.Core.Path.{_≡_, refl, ap, _∙_}
@@ -10,12 +11,13 @@ use lib.ListN.{length}
 use Rattle.common.proofs.Turns.{iter-none, iter-turn}
 use Rattle.samples.proofs.Moves.{Ends, ends}
 use Rattle.rows.specs.Internal.Rows.{wholeRows}
-use Rattle.rows.proofs.Whole.{last-row, copied-row, copied-rows}
-use Rattle.rows.proofs.copy.copy_rows.Statement.{statement}
-use Rattle.rows.proofs.copy.copy_rows.Tie as tie
+use Rattle.rows.proofs.WholeBytes.{last-row, copied-row, copied-rows}
+use Rattle.rows.proofs.whole.copy_rows.Statement.{statement}
+use Rattle.rows.proofs.whole.copy_rows.Tie as tie
 
 abbrev Inv-loop : tie.InvT-loop
-Inv-loop src at row size count out₀ to line rows n i₀ out i = (i ≤ rows) × (length out ≡ length out₀) × (out ≡ wholeRows src at row size size count to line i out₀)
+Inv-loop src at row size count out₀ to line rows n i₀ out i =
+    (i ≤ rows) × (length out ≡ length out₀) × (out ≡ wholeRows src at row size size count to line i out₀)
 
 abbrev μ-loop : tie.MeasureT-loop
 μ-loop src at row size count out₀ to line rows n i₀ out i = rows - i
@@ -28,8 +30,11 @@ one : (c : tie.Then2 Inv-loop μ-loop)
 one c =
     let s = c .before .before .before .before in
     let m : ℕ = s .args .rows in
-    let e : s .args .line ≡ s .args .count * s .args .size = eqb-true _ _ (c .if2 .taken) in
-    (omega (arith, s .pre .0 .1, ap (λ (x : ℕ). m * x) (c .before .if1 .taken)), omega (arith, s .pre .1, ap (λ (x : ℕ). m * x) e))
+    let e : s .args .line ≡ s .args .count * s .args .size = eqb-true _ _ (c .if2 .taken) in (
+      omega (arith, s .pre .0 .1, ap (λ (x : ℕ). m * x) (c .before .if1 .taken)),
+      omega
+          (arith, s .pre .1, ap (λ (x : ℕ). m * x) e),
+    )
 
 -- in a turn: row i ends within the rows
 ends-in : (c : tie.In-loop Inv-loop μ-loop)
@@ -52,7 +57,8 @@ returns : tie.Need-returns Inv-loop μ-loop
 returns c =
     let here = c .before .before .before .before in
     let o = one here in
-    copied-rows _ _ _ _ _ _ _ (λ i. here .before .before .before .shared-slice-known .given i .fits) refl (here .before .if1 .taken) (eqb-true _ _ (here .if2 .taken)) (o .0) (o .1)
+    copied-rows _ _ _ _ _ _ _ (λ i. here .before .before .before .shared-slice-known .given i .fits) refl
+    (here .before .if1 .taken) (eqb-true _ _ (here .if2 .taken)) (o .0) (o .1)
     (c .before .before .copy .ensures)
 
 loop-holds : tie.Need-loop-holds Inv-loop μ-loop
@@ -89,7 +95,8 @@ loop-again c =
       omega arith,
       omega (arith, call .copy2 .kept),
       iter-turn _ _ (head .loop .i) (head .loop .inv .2)
-          (copied-row _ _ _ _ _ _ _ _ (λ i. known .shared-slice-known .given i .fits) (omega (arith, s .pre .0 .1, ends-in turn)) (call .copy2 .ensures)),
+          (copied-row _ _ _ _ _ _ _ _ (λ i. known .shared-slice-known .given i .fits)
+          (omega (arith, s .pre .0 .1, ends-in turn)) (call .copy2 .ensures)),
     )
 
 same-length-2 : tie.Need-same-length-2 Inv-loop μ-loop
@@ -103,22 +110,5 @@ returns-2 c =
 pub copy-rows-spec : {M : Type 1} → statement M
 copy-rows-spec =
     tie.close
-    (tie.spec
-    Inv-loop
-    μ-loop
-    mul-n
-    mul-copy
-    copy-requires
-    same-length
-    returns
-    loop-holds
-    mul-copy-2
-    add-copy
-    mul-copy-3
-    add-copy-2
-    copy-requires-2
-    add-i
-    loop-less
-    loop-again
-    same-length-2
-    returns-2)
+    (tie.spec Inv-loop μ-loop mul-n mul-copy copy-requires same-length returns loop-holds mul-copy-2 add-copy
+    mul-copy-3 add-copy-2 copy-requires-2 add-i loop-less loop-again same-length-2 returns-2)

@@ -1,8 +1,8 @@
--- `rows::gather::gather_rows` meets its contract: each arm is the call at its literal.
+-- `rows::whole::gather_rows` meets its contract: each arm is the call at its literal.
 -- Assumes nothing.
 use borrow.Author.Needs.{needs}
-use Rattle.rows.proofs.gather.gather_rows.Statement.{statement}
-use Rattle.rows.proofs.gather.gather_rows.Tie as tie
+use Rattle.rows.proofs.whole.gather_rows.Statement.{statement}
+use Rattle.rows.proofs.whole.gather_rows.Tie as tie
 
 gather-rows-any-requires : tie.Need-gather-rows-any-requires
 gather-rows-any-requires c κs = rw (c .before .match .keys1) at (c .before .before .before .before .pre)
@@ -61,22 +61,6 @@ returns-6 c = search needs
 pub gather-rows-spec : {M : Type 1} → statement M
 gather-rows-spec =
     tie.close
-    (tie.spec
-    gather-rows-any-requires
-    gather-rows-any-requires-2
-    gather-rows-any-requires-3
-    gather-rows-any-requires-4
-    gather-rows-any-requires-5
-    gather-rows-any-requires-6
-    same-length
-    returns
-    same-length-2
-    returns-2
-    same-length-3
-    returns-3
-    same-length-4
-    returns-4
-    same-length-5
-    returns-5
-    same-length-6
-    returns-6)
+    (tie.spec gather-rows-any-requires gather-rows-any-requires-2 gather-rows-any-requires-3
+    gather-rows-any-requires-4 gather-rows-any-requires-5 gather-rows-any-requires-6 same-length returns same-length-2
+    returns-2 same-length-3 returns-3 same-length-4 returns-4 same-length-5 returns-5 same-length-6 returns-6)

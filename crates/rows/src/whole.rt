@@ -1,13 +1,42 @@
-// Rows of samples of whole bytes that stand apart, put side by side.
+// Rows of samples of whole bytes.
 ghost use mathlib.Core.Path.{_≡_};
 ghost use Prim.Native.Nat.{_+_, _*_, _≤_, _<_};
 ghost use lib.ListN.{length};
 ghost use Rattle.rows.specs.Internal.Rows.{wholeRows};
+use bits::bytes::copy;
 use samples::read::gather_any;
 
-// `rows` rows of `count` samples of `size` bytes, one every `step` bytes. The first starts at index `at` of `src` and
-// goes to index `to` of `out` on; rows start
-// `row` bytes apart in `src` and `line` bytes apart in `out`.
+// `rows` rows of `count` samples of `size` bytes that stand side by side, from index `at` of `src` to index `to` of
+// `out` on. Rows start `row` bytes apart in `src` and `line` bytes apart in `out`; those that follow each other on
+// both sides are copied as one.
+pub fn copy_rows(
+    src: &[u8],
+    at: usize,
+    row: usize,
+    size: usize,
+    count: usize,
+    out: &mut [u8],
+    to: usize,
+    line: usize,
+    rows: usize,
+)
+    requires { ⌜ (0 < rows) × (at + rows * row + count * size ≤ length (now src) + row) ⌝ }
+    requires { ⌜ to + rows * line + count * size ≤ length (now out) + line ⌝ }
+    ensures { λ _. ⌜ now (out .exit) ≡ wholeRows (now (src .entry)) at row size size count to line rows
+        (now (out .entry)) ⌝ }
+{
+    let n = count * size;
+    if row == n && line == n {
+        copy(src, at, rows * n, out, to);
+        return;
+    }
+    for i in 0..rows {
+        copy(src, at + i * row, n, out, to + i * line);
+    }
+}
+
+// `rows` rows of `count` samples of `size` bytes, one every `step` bytes, from index `at` of `src` to index `to` of
+// `out` on. Rows start `row` bytes apart in `src` and `line` bytes apart in `out`.
 fn gather_rows_any(
     src: &[u8],
     at: usize,
@@ -23,8 +52,8 @@ fn gather_rows_any(
     requires { ⌜ (size ≤ 8) × (0 < count) ⌝ }
     requires { ⌜ at + rows * row + count * step + size ≤ length (now src) + step + row ⌝ }
     requires { ⌜ to + rows * line + count * size ≤ length (now out) + line ⌝ }
-    ensures { λ _. ⌜ now (out .exit)
-        ≡ wholeRows (now (src .entry)) at row step size count to line rows (now (out .entry)) ⌝ }
+    ensures { λ _. ⌜ now (out .exit) ≡ wholeRows (now (src .entry)) at row step size count to line rows
+        (now (out .entry)) ⌝ }
 {
     for i in 0..rows {
         gather_any(src, at + i * row, step, size, count, out, to + i * line);
@@ -47,8 +76,8 @@ pub fn gather_rows(
     requires { ⌜ (size ≤ 8) × (0 < count) ⌝ }
     requires { ⌜ at + rows * row + count * step + size ≤ length (now src) + step + row ⌝ }
     requires { ⌜ to + rows * line + count * size ≤ length (now out) + line ⌝ }
-    ensures { λ _. ⌜ now (out .exit)
-        ≡ wholeRows (now (src .entry)) at row step size count to line rows (now (out .entry)) ⌝ }
+    ensures { λ _. ⌜ now (out .exit) ≡ wholeRows (now (src .entry)) at row step size count to line rows
+        (now (out .entry)) ⌝ }
 {
     match size {
         1 => gather_rows_any(src, at, row, step, 1, count, out, to, line, rows),

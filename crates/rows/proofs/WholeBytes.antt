@@ -26,18 +26,23 @@ last-row (suc m) x h = suc-mul m x ∙ ap (λ (y : ℕ). y * x + x) (let e : m �
 -- ---- rows copied
 
 -- row i
-pub copied-row : (xs : List ℕ) (at row s count i o : ℕ) (d : List ℕ) {zs : List ℕ} → Bytes xs → at + i * row + count * s ≤ length xs
-    → zs ≡ over d o (take (count * s) (drop (at + i * row) xs)) → zs ≡ over d o (values (spaced xs (8 * at + i * (8 * row)) (8 * s) (8 * s)) s count)
+pub copied-row : (xs : List ℕ) (at row s count i o : ℕ) (d : List ℕ) {zs : List ℕ} → Bytes xs → at + i * row + count *
+    s ≤ length xs
+    → zs ≡ over d o (take (count * s) (drop (at + i * row) xs)) → zs
+    ≡ over d o (values (spaced xs (8 * at + i * (8 * row)) (8 * s) (8 * s)) s count)
 copied-row xs at row s count i o d b reach ez =
     gathered-run xs (at + i * row) s count d o b reach ez
     ∙ ap (λ (x : ℕ). over d o (values (spaced xs x (8 * s) (8 * s)) s count)) (omega arith)
 
 -- m rows of `count` samples that follow each other on both sides
-pub copied-rows : (xs : List ℕ) (at s count to m : ℕ) (d : List ℕ) {row line n : ℕ} {zs : List ℕ} → Bytes xs → n ≡ count * s → row ≡ n → line ≡ n
-    → at + m * n ≤ length xs → to + m * n ≤ length d → zs ≡ over d to (take (m * n) (drop at xs)) → zs ≡ wholeRows xs at row s s count to line m d
+pub copied-rows : (xs : List ℕ) (at s count to m : ℕ) (d : List ℕ) {row line n : ℕ} {zs : List ℕ} → Bytes xs → n
+    ≡ count * s → row ≡ n → line ≡ n
+    → at + m * n ≤ length xs → to + m * n ≤ length d → zs ≡ over d to (take (m * n) (drop at xs)) → zs
+    ≡ wholeRows xs at row s s count to line m d
 unfolding spaced
 copied-rows xs at s count to m d {row} {line} {n} {zs} b en er el reach room ez =
-    gathered-run xs at s (m * count) d to b (omega (arith, ap (λ (x : ℕ). m * x) en)) (ez ∙ ap (λ (x : ℕ). over d to (take x (drop at xs))) size)
+    gathered-run xs at s (m * count) d to b (omega (arith, ap (λ (x : ℕ). m * x) en))
+    (ez ∙ ap (λ (x : ℕ). over d to (take x (drop at xs))) size)
     ∙ sym (rw (er, el, en)
     (iter-steps (λ i z. z ≡ over d to (values (spaced xs (8 * at) (8 * s) (8 * s)) s (i * count))) m
     (rowRead xs (8 * at) (8 * (count * s)) (8 * s) (8 * s) s count to (count * s)) d
@@ -46,9 +51,11 @@ copied-rows xs at s count to m d {row} {line} {n} {zs} b en er el reach room ez 
     let q : (i + 1) * count ≡ i * count + count = omega arith in
     let o : to + i * (count * s) ≡ to + i * count * s = omega arith in
     rw q
-    (values-run (spaced xs (8 * at) (8 * s) (8 * s)) (spaced xs (8 * at + i * (8 * (count * s))) (8 * s) (8 * s)) s d to (i * count) count
+    (values-run (spaced xs (8 * at) (8 * s) (8 * s)) (spaced xs (8 * at + i * (8 * (count * s))) (8 * s) (8 * s)) s d
+    to (i * count) count
     (omega (arith, ap (λ (x : ℕ). m * x) en)) e
-    (ap (λ (x : ℕ). over z x (values (spaced xs (8 * at + i * (8 * (count * s))) (8 * s) (8 * s)) s count)) o) (λ j l. ap (λ (x : ℕ). bitsAt xs x (8 * s)) (omega arith))))
+    (ap (λ (x : ℕ). over z x (values (spaced xs (8 * at + i * (8 * (count * s))) (8 * s) (8 * s)) s count)) o)
+    (λ j l. ap (λ (x : ℕ). bitsAt xs x (8 * s)) (omega arith))))
     (rw (let z : 0 * count ≡ 0 = omega arith in z) (values-none _ s d to))))
   where
     size : m * n ≡ m * count * s
@@ -62,7 +69,8 @@ record WholeRow (n at row s count i : ℕ) : Type 0 where
   inside : at / 8 + i * (row / 8) + count * s ≤ n
 
 module _ (n at row step w s count m : ℕ) (e : w ≡ 8 * s) (es : step ≡ w) where
-  whole-row : ((i : ℕ) → i < m → Movable n (at + i * row) step w s count) → (i : ℕ) → i < m → WholeRow n at row s count i
+  whole-row : ((i : ℕ) → i < m → Movable n (at + i * row) step w s count) → (i : ℕ) → i < m
+      → WholeRow n at row s count i
   whole-row rows i h =
       let z : 8 * (at / 8 + i * (row / 8)) ≡ at + i * row = go i h in
       let c : count * step ≡ 8 * (count * s) = ap (λ (x : ℕ). count * x) (es ∙ e) ∙ omega arith in
@@ -76,12 +84,14 @@ module _ (n at row step w s count m : ℕ) (e : w ≡ 8 * s) (es : step ≡ w) w
           omega (arith, whole at row (suc i) (omega arith, omega arith))
 
   -- they end inside
-  pub rows-end : 0 < m → ((i : ℕ) → i < m → Movable n (at + i * row) step w s count) → at / 8 + m * (row / 8) + count * s ≤ n + row / 8
+  pub rows-end : 0 < m → ((i : ℕ) → i < m → Movable n (at + i * row) step w s count) → at / 8 + m * (row / 8) + count
+      * s ≤ n + row / 8
   rows-end some rows = omega (arith, last-row m (row / 8) some, whole-row rows (m - 1) (omega arith) .inside)
 
   module _ (rows : (i : ℕ) → i < m → Movable n (at + i * row) step w s count) where
     -- read
-    pub rows-read : (xs : List ℕ) (to line : ℕ) (d : List ℕ) {zs : List ℕ} → zs ≡ wholeRows xs (at / 8) (row / 8) s s count to line m d
+    pub rows-read : (xs : List ℕ) (to line : ℕ) (d : List ℕ) {zs : List ℕ} → zs ≡ wholeRows xs (at / 8) (row / 8) s s
+        count to line m d
         → zs ≡ iter m (rowRead xs at row step w s count to line) d
     rows-read xs to line d ez =
         ez ∙ iter-ext m _ _ d (λ i h x.
@@ -90,14 +100,18 @@ module _ (n at row step w s count m : ℕ) (e : w ≡ 8 * s) (es : step ≡ w) w
 
     -- written
     pub rows-written : (dat : List ℕ) (from line : ℕ) (d : List ℕ) {zs : List ℕ} → Bytes dat → Bytes d → n ≤ length d
-        → zs ≡ wholeRows dat from line s s count (at / 8) (row / 8) m d → zs ≡ iter m (rowWritten dat from line s w at row step count) d
+        → zs ≡ wholeRows dat from line s s count (at / 8) (row / 8) m d → zs
+        ≡ iter m (rowWritten dat from line s w at row step count) d
     unfolding sideBySide
     rows-written dat from line d bt bd fits ez =
         ez
-        ∙ iter-steps (λ i x. (x ≡ iter i (rowWritten dat from line s w at row step count) d) × (length x ≡ length d) × Bytes x) m
-        (rowRead dat (8 * from) (8 * line) (8 * s) (8 * s) s count (at / 8) (row / 8)) d turn (iter-none _ d, refl, bd) .0
+        ∙ iter-steps (λ i x. (x ≡ iter i (rowWritten dat from line s w at row step count) d) × (length x ≡ length d)
+        × Bytes x) m
+        (rowRead dat (8 * from) (8 * line) (8 * s) (8 * s) s count (at / 8) (row / 8)) d turn
+        (iter-none _ d, refl, bd) .0
       where
-        turn : (i : ℕ) → i < m → (x : List ℕ) → (x ≡ iter i (rowWritten dat from line s w at row step count) d) × (length x ≡ length d) × Bytes x
+        turn : (i : ℕ) → i < m → (x : List ℕ) → (x ≡ iter i (rowWritten dat from line s w at row step count) d)
+            × (length x ≡ length d) × Bytes x
             → let y = rowRead dat (8 * from) (8 * line) (8 * s) (8 * s) s count (at / 8) (row / 8) i x in
             (y ≡ iter (i + 1) (rowWritten dat from line s w at row step count) d) × (length y ≡ length d) × Bytes y
         turn i h x p =
@@ -105,10 +119,12 @@ module _ (n at row step w s count m : ℕ) (e : w ≡ 8 * s) (es : step ≡ w) w
             let put : ℕ = at / 8 + i * (row / 8) in
             let v : ℕ → ℕ = spaced dat (8 * from + i * (8 * line)) (8 * s) (8 * s) in
             let o : 8 * from + i * (8 * line) ≡ 8 * (from + i * line) = omega arith in
-            let q : over x put (values v s count) ≡ putSpaced (sideBySide dat (from + i * line) s) w (at + i * row) step count x
+            let q : over x put (values v s count) ≡ putSpaced (sideBySide dat (from + i * line) s) w (at + i * row)
+            step count x
             = putSpaced-run v s put count x (p .2) (omega (arith, r .inside))
             ∙ putSpaced-ext v (sideBySide dat (from + i * line) s) (8 * s) (8 * put) (8 * s) count x
-            (λ k l. ap (λ (z : ℕ). spaced dat z (8 * s) (8 * s) k) o ∙ sym (spaced-bytes dat (from + i * line) s s k bt))
+            (λ k l. ap (λ (z : ℕ). spaced dat z (8 * s) (8 * s) k) o
+            ∙ sym (spaced-bytes dat (from + i * line) s s k bt))
             ∙ rw (r .start, es, e) refl in (
               iter-turn (rowWritten dat from line s w at row step count) d i (p .0) q,
               ap length q ∙ length-putSpaced _ w (at + i * row) step count x ∙ p .1,

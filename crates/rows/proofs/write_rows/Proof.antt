@@ -1,4 +1,4 @@
--- `rows::write::write_rows` meets its contract: rows of bytes are copied, and of others the first i are written.
+-- `rows::write_rows` meets its contract: rows of bytes are copied, and of others the first i are written.
 -- Assumes nothing.
 use borrow.Author.Needs.{needs}
 use mathlib.Core.Path.{_≡_, refl, _∙_}
@@ -11,13 +11,14 @@ use Rattle.common.specs.Turns.{iter}
 use Rattle.common.proofs.Turns.{iter-none, iter-turn}
 use Rattle.samples.proofs.Moves.{Ends, ends}
 use Rattle.rows.specs.Internal.Rows.{Movable, rowWritten}
-use Rattle.rows.proofs.Whole.{rows-end, rows-written}
-use Rattle.rows.proofs.write.write_rows.Statement.{statement}
-use Rattle.rows.proofs.write.write_rows.Tie as tie
+use Rattle.rows.proofs.WholeBytes.{rows-end, rows-written}
+use Rattle.rows.proofs.write_rows.Statement.{statement}
+use Rattle.rows.proofs.write_rows.Tie as tie
 
 abbrev Inv-loop : tie.InvT-loop
 Inv-loop dat from line size img₀ at row step width count rows i₀ img i =
-    (i ≤ rows) × (length img ≡ length img₀) × (img ≡ iter i (rowWritten dat from line size width at row step count) img₀)
+    (i ≤ rows) × (length img ≡ length img₀) × (img ≡ iter i (rowWritten dat from line size width at row step count)
+    img₀)
 
 abbrev μ-loop : tie.MeasureT-loop
 μ-loop dat from line size img₀ at row step width count rows i₀ img i = rows - i
@@ -53,7 +54,8 @@ returns c =
     let b = c .before .before .before .before in
     let known = b .before .before in
     rows-written _ _ _ _ _ _ _ _ (whole b) (b .before .if1 .taken) (known .before .before .pre .1 .0) _ _ _ _
-    (λ i. known .before .shared-slice-known .given i .fits) (λ i. known .slice-known .given i .fits) (omega arith) (c .before .before .copy-rows .ensures)
+    (λ i. known .before .shared-slice-known .given i .fits) (λ i. known .slice-known .given i .fits) (omega arith)
+    (c .before .before .copy-rows .ensures)
 
 loop-holds : tie.Need-loop-holds Inv-loop μ-loop
 loop-holds c = (omega arith, refl, iter-none _ _)
@@ -74,8 +76,10 @@ write-samples-requires : tie.Need-write-samples-requires Inv-loop μ-loop
 write-samples-requires c κs =
     let s = c .before .before .before .before .before .before in
     let p = s .pre .0 in
-    let r = row-in (c .before) in
-    ((p .0, p .1, omega (arith, s .pre .1 .1 .1, r .1)), (r .0 .whole, (r .0 .fits, omega (arith, r .0 .inside, c .before .before .loop .inv .1))))
+    let r = row-in (c .before) in (
+      (p .0, p .1, omega (arith, s .pre .1 .1 .1, r .1)),
+      (r .0 .whole, (r .0 .fits, omega (arith, r .0 .inside, c .before .before .loop .inv .1))),
+    )
 
 add-i : tie.Need-add-i Inv-loop μ-loop
 add-i c = omega arith
@@ -103,21 +107,6 @@ returns-2 c =
 pub write-rows-spec : {M : Type 1} → statement M
 write-rows-spec =
     tie.close
-    (tie.spec
-    Inv-loop
-    μ-loop
-    mul-if2
-    copy-rows-requires
-    same-length
-    returns
-    loop-holds
-    mul-write-samples
-    add-write-samples
-    mul-write-samples-2
-    add-write-samples-2
-    write-samples-requires
-    add-i
-    loop-less
-    loop-again
-    same-length-2
-    returns-2)
+    (tie.spec Inv-loop μ-loop mul-if2 copy-rows-requires same-length returns loop-holds mul-write-samples
+    add-write-samples mul-write-samples-2 add-write-samples-2 write-samples-requires add-i loop-less loop-again
+    same-length-2 returns-2)

@@ -1,4 +1,4 @@
--- `rows::read::read_rows` meets its contract: rows of bytes are copied, and of others the first i are read.
+-- `rows::read_rows` meets its contract: rows of bytes are copied, and of others the first i are read.
 -- Assumes nothing.
 use borrow.Author.Needs.{needs}
 use mathlib.Core.Path.{_≡_, refl, _∙_}
@@ -11,9 +11,9 @@ use Rattle.common.specs.Turns.{iter}
 use Rattle.common.proofs.Turns.{iter-none, iter-turn}
 use Rattle.samples.proofs.Moves.{Ends, ends}
 use Rattle.rows.specs.Internal.Rows.{Movable, rowRead}
-use Rattle.rows.proofs.Whole.{rows-end, rows-read}
-use Rattle.rows.proofs.read.read_rows.Statement.{statement}
-use Rattle.rows.proofs.read.read_rows.Tie as tie
+use Rattle.rows.proofs.WholeBytes.{rows-end, rows-read}
+use Rattle.rows.proofs.read_rows.Statement.{statement}
+use Rattle.rows.proofs.read_rows.Tie as tie
 
 abbrev Inv-loop : tie.InvT-loop
 Inv-loop src at row step width size count out₀ to line rows i₀ out i =
@@ -51,7 +51,8 @@ same-length c = search needs
 returns : tie.Need-returns Inv-loop μ-loop
 returns c =
     let b = c .before .before .before .before in
-    rows-read _ _ _ _ _ _ _ _ (whole b) (b .before .if1 .taken) (b .before .before .before .before .pre .1 .0) _ _ _ _ (c .before .before .copy-rows .ensures)
+    rows-read _ _ _ _ _ _ _ _ (whole b) (b .before .if1 .taken) (b .before .before .before .before .pre .1 .0) _ _ _ _
+    (c .before .before .copy-rows .ensures)
 
 loop-holds : tie.Need-loop-holds Inv-loop μ-loop
 loop-holds c = (omega arith, refl, iter-none _ _)
@@ -100,21 +101,6 @@ returns-2 c =
 pub read-rows-spec : {M : Type 1} → statement M
 read-rows-spec =
     tie.close
-    (tie.spec
-    Inv-loop
-    μ-loop
-    mul-if2
-    copy-rows-requires
-    same-length
-    returns
-    loop-holds
-    mul-read-samples
-    add-read-samples
-    mul-read-samples-2
-    add-read-samples-2
-    read-samples-requires
-    add-i
-    loop-less
-    loop-again
-    same-length-2
-    returns-2)
+    (tie.spec Inv-loop μ-loop mul-if2 copy-rows-requires same-length returns loop-holds mul-read-samples
+    add-read-samples mul-read-samples-2 add-read-samples-2 read-samples-requires add-i loop-less loop-again
+    same-length-2 returns-2)
