@@ -1,24 +1,35 @@
 -- Laws of an order: each piece is a part of the whole, and each sample is in one of the pieces.
 -- Assumes nothing.
 use Prim.Native.Nat.{ℕ, zero, suc, _+_, _-_, _*_, _/_, _%_, _^_, min, _≤_, _<_}
-use mathlib.Core.Path.{_≡_, refl, sym, ap, _∙_}
-use mathlib.Core.Bool.{Bool, false}
+use mathlib.Core.Path.{_≡_, refl, sym, ap, ap₂, _∙_}
+use mathlib.Core.Bool.{Bool, true, false}
 use mathlib.Core.List.{List}
 use native.Mathlib.Omega.{arith}
+use native.Mathlib.Decide.{decLt}
 use native.Mathlib.Nat.{mod-lt, div-add-mod', div-lt-iff-lt-mul, mul-le-mul-right, suc-mul}
+use borrow.Author.Tests.{lt-ltb, le-ltb}
+use lib.Dec.{ltb}
 use lib.Arith.{digits-lt, digits-div, digits-mod}
+use Rattle.common.specs.Tests.{pick}
+use Rattle.common.proofs.Tests.{pick-yes, pick-no}
 use Rattle.common.proofs.Arith.{part-start, part-lt, rest-lt, ceil-le, prod-le}
 use Rattle.layout.specs.declared.BlockLayout.{BlockLayout}
 use Rattle.moves.specs.declared.order.Cut.{Cut}
+use Rattle.moves.specs.declared.order.Span.{Span}
 use Rattle.moves.specs.declared.order.Piece.{Piece}
 use Rattle.moves.specs.declared.order.Order.{Order}
 use Rattle.moves.specs.declared.order.Way.{Way}
 use Rattle.moves.specs.declared.order.Way.the-variants.{Rows, Pixels, Runs}
-use Rattle.moves.specs.Internal.Orders.{partOf, RightCut, SpanIn, InSpan, orderOf, pieceCount, pieceOf, RightCuts, PieceIn, InPiece, WayFits, PixelBands, Listed, Chosen}
+use Rattle.moves.specs.Internal.Orders.{partOf, nextPart, RightCut, SpanIn, InSpan, orderOf, pieceCount, pieceOf}
+use Rattle.moves.specs.Internal.Orders.{advanced, nextPiece, RightCuts, PieceIn, InPiece, WayFits, PixelBands, Listed, Chosen}
 use Rattle.moves.specs.Internal.Puts.{Samples, Target, Among, Puts}
 use Rattle.moves.proofs.Putting.{Before, puts-none, puts-less, puts-turn}
 
 -- ---- parts of a length
+
+-- the part of a cut from a number on
+abbrev span-from : Cut → ℕ → Span
+span-from c from = record { from = from; count = min (c .most) (c .length - from) }
 
 pub part-starts : (c : Cut) → RightCut c → (p : ℕ) → p < c .parts → p * c .most < c .length
 part-starts c r p h = part-start (c .length) (c .most) p (r .some) (rw (r .parts-are) at h)
@@ -34,6 +45,30 @@ in-span c r x h =
 
 parts-lt : (c : Cut) → RightCut c → (x : ℕ) → x < c .length → x / c .most < c .parts
 parts-lt c r x h = rw (r .parts-are) (part-lt (c .length) (c .most) x (r .some) h)
+
+-- the part after a part starts where it ends, and after the last one is the first
+module _ (c : Cut) (r : RightCut c) (p : ℕ) where
+  pub part-next : p + 1 < c .parts → nextPart c (partOf c p) ≡ partOf c (p + 1)
+  part-next h =
+      let l = part-starts c r (p + 1) h in
+      let e : p * c .most + min (c .most) (c .length - p * c .most) ≡ (p + 1) * c .most = omega (arith, suc-mul p (c .most)) in
+      ap (span-from c) (rw e (pick-yes _ 0 (lt-ltb _ _ l)))
+
+  pub part-first : p < c .parts → (p + 1 < c .parts → ⊥) → nextPart c (partOf c p) ≡ partOf c 0
+  part-first h last =
+      let l = part-starts c r p h in
+      let m : c .length ≤ (p + 1) * c .most = whole (decLt ((p + 1) * c .most) (c .length)) in
+      let e : p * c .most + min (c .most) (c .length - p * c .most) ≡ c .length = omega (arith, suc-mul p (c .most)) in
+      ap (span-from c) (rw e (pick-no _ 0 (le-ltb (c .length) (c .length) (omega arith))) ∙ z)
+    where
+      z : 0 ≡ 0 * c .most
+      z = omega arith
+
+      whole : Dec ((p + 1) * c .most < c .length) → c .length ≤ (p + 1) * c .most
+      whole (yes l) =
+          let e : ((p + 1) * c .most + 0) / c .most ≡ p + 1 = digits-div (p + 1) (r .some) in
+          absurd (last (rw e at (parts-lt c r ((p + 1) * c .most + 0) (omega arith))))
+      whole (no l) = omega arith
 
 -- ---- pieces
 
@@ -61,6 +96,113 @@ parts o k h =
     pos : (n m k : ℕ) → k < m * n → 0 < n
     pos zero m k h = absurd (omega arith)
     pos (suc n) m k h = omega arith
+
+-- the digits of the number after k
+next-digits : (n k : ℕ) → 0 < n → k % n + 1 < n → ((k + 1) % n ≡ k % n + 1) × ((k + 1) / n ≡ k / n)
+next-digits n k h l =
+    let e : k + 1 ≡ k / n * n + (k % n + 1) = omega (arith, div-add-mod' k n) in
+    (ap (λ (x : ℕ). x % n) e ∙ digits-mod (k / n) l, ap (λ (x : ℕ). x / n) e ∙ digits-div (k / n) l)
+
+carried-digits : (n k : ℕ) → 0 < n → (k % n + 1 < n → ⊥) → ((k + 1) % n ≡ 0) × ((k + 1) / n ≡ k / n + 1)
+carried-digits n k h l =
+    let m = mod-lt k h in
+    let e : k + 1 ≡ (k / n + 1) * n + 0 = omega (arith, div-add-mod' k n, suc-mul (k / n) n) in
+    (ap (λ (x : ℕ). x % n) e ∙ digits-mod (k / n + 1) h, ap (λ (x : ℕ). x / n) e ∙ digits-div (k / n + 1) h)
+
+-- a part begins at 0 exactly if it is the first
+later-from : (c : Cut) → RightCut c → (p : ℕ) → ltb 0 ((p + 1) * c .most) ≡ true
+later-from c r p = lt-ltb 0 ((p + 1) * c .most) (omega (arith, suc-mul p (c .most), r .some))
+
+first-from : (c : Cut) → ltb 0 (0 * c .most) ≡ false
+first-from c = le-ltb 0 (0 * c .most) (omega arith)
+
+-- the piece after a piece, as its three cases have it
+module _ (o : Order) (p : Piece) {b : Span} (eb : b ≡ nextPart (o .bands) (p .bands)) where
+  pub bands-go-on : 0 < b .from → record { bands = b; rows = p .rows; columns = p .columns } ≡ nextPiece o p
+  bands-go-on h =
+      let c : Span = nextPart (o .columns) (p .columns) in
+      let r : Span = nextPart (o .rows) (p .rows) in
+      sym (pick-yes _ _ (lt-ltb 0 (b .from) h)) ∙ ap (λ (s : Span). advanced s c r p) eb
+
+  module _ {c : Span} (ec : c ≡ nextPart (o .columns) (p .columns)) (first : b .from ≤ 0) where
+    pub columns-go-on : 0 < c .from → record { bands = b; rows = p .rows; columns = c } ≡ nextPiece o p
+    columns-go-on h =
+        let r : Span = nextPart (o .rows) (p .rows) in
+        sym (pick-yes _ _ (lt-ltb 0 (c .from) h)) ∙ sym (pick-no _ _ (le-ltb 0 (b .from) first))
+        ∙ ap₂ (λ (s t : Span). advanced s t r p) eb ec
+
+    pub rows-go-on : {r : Span} → r ≡ nextPart (o .rows) (p .rows) → c .from ≤ 0
+        → record { bands = b; rows = r; columns = c } ≡ nextPiece o p
+    rows-go-on {r} er also =
+        sym (pick-no _ _ (le-ltb 0 (c .from) also)) ∙ sym (pick-no _ _ (le-ltb 0 (b .from) first))
+        ∙ (λ i. advanced (eb i) (ec i) (er i) p)
+
+-- what follows piece k, by how far its bands and its columns go
+module _ (o : Order) (q : RightCuts o) (k : ℕ) (h : k + 1 < pieceCount o) where
+  abbrev n : ℕ
+  n = o .bands .parts
+
+  abbrev m : ℕ
+  m = o .columns .parts
+
+  abbrev piece-at : ℕ → ℕ → ℕ → Piece
+  piece-at b r c = record { bands = partOf (o .bands) b; rows = partOf (o .rows) r; columns = partOf (o .columns) c }
+
+  abbrev next-rows : Span
+  next-rows = nextPart (o .rows) (pieceOf o k .rows)
+
+  abbrev next-columns : Span
+  next-columns = nextPart (o .columns) (pieceOf o k .columns)
+
+  here : Parts o k
+  here = parts o k (omega arith)
+
+  -- piece k + 1 by its three digits
+  as-next : (b r c : ℕ) → (k + 1) % n ≡ b → (k + 1) / n / m ≡ r → (k + 1) / n % m ≡ c
+      → piece-at b r c ≡ pieceOf o (k + 1)
+  as-next b r c eb er ec = λ i. piece-at (sym eb i) (sym er i) (sym ec i)
+
+  more-bands : k % n + 1 < n → nextPiece o (pieceOf o k) ≡ pieceOf o (k + 1)
+  more-bands l =
+      let e = next-digits n k (here .some-bands) l in
+      ap (λ (s : Span). advanced s next-columns next-rows (pieceOf o k)) (part-next (o .bands) (q .bands-cut) (k % n) l)
+      ∙ pick-yes _ _ (later-from (o .bands) (q .bands-cut) (k % n))
+      ∙ as-next _ _ _ (e .0) (ap (λ (x : ℕ). x / m) (e .1)) (ap (λ (x : ℕ). x % m) (e .1))
+
+  -- the bands begin again
+  module _ (l : k % n + 1 < n → ⊥) where
+    first-bands : nextPart (o .bands) (pieceOf o k .bands) ≡ partOf (o .bands) 0
+    first-bands = part-first (o .bands) (q .bands-cut) (k % n) (here .in-bands) l
+
+    more-columns : k / n % m + 1 < m → nextPiece o (pieceOf o k) ≡ pieceOf o (k + 1)
+    more-columns c =
+        let e = carried-digits n k (here .some-bands) l in
+        let f = next-digits m (k / n) (here .some-columns) c in
+        ap₂ (λ (s t : Span). advanced s t next-rows (pieceOf o k)) first-bands
+        (part-next (o .columns) (q .columns-cut) (k / n % m) c)
+        ∙ pick-no _ _ (first-from (o .bands)) ∙ pick-yes _ _ (later-from (o .columns) (q .columns-cut) (k / n % m))
+        ∙ as-next _ _ _ (e .0) (ap (λ (x : ℕ). x / m) (e .1) ∙ f .1) (ap (λ (x : ℕ). x % m) (e .1) ∙ f .0)
+
+    more-rows : (k / n % m + 1 < m → ⊥) → nextPiece o (pieceOf o k) ≡ pieceOf o (k + 1)
+    more-rows c =
+        let e = carried-digits n k (here .some-bands) l in
+        let f = carried-digits m (k / n) (here .some-columns) c in
+        let r : (k + 1) / n / m ≡ k / n / m + 1 = ap (λ (x : ℕ). x / m) (e .1) ∙ f .1 in
+        let i : k / n / m + 1 < o .rows .parts = rw r at (parts o (k + 1) h .in-rows) in
+        ap₂ (λ (s t : Span). advanced s t next-rows (pieceOf o k)) first-bands
+        (part-first (o .columns) (q .columns-cut) (k / n % m) (here .in-columns) c)
+        ∙ pick-no _ _ (first-from (o .bands)) ∙ pick-no _ _ (first-from (o .columns))
+        ∙ ap (λ (s : Span). record { bands = partOf (o .bands) 0; rows = s; columns = partOf (o .columns) 0 })
+        (part-next (o .rows) (q .rows-cut) (k / n / m) i)
+        ∙ as-next _ _ _ (e .0) r (ap (λ (x : ℕ). x % m) (e .1) ∙ f .0)
+
+  pub piece-next : nextPiece o (pieceOf o k) ≡ pieceOf o (k + 1)
+  piece-next = go (decLt (k % n + 1) n) (decLt (k / n % m + 1) m)
+    where
+      go : Dec (k % n + 1 < n) → Dec (k / n % m + 1 < m) → nextPiece o (pieceOf o k) ≡ pieceOf o (k + 1)
+      go (yes l) d = more-bands l
+      go (no l) (yes c) = more-columns l c
+      go (no l) (no c) = more-rows l c
 
 -- which piece a sample is in
 abbrev pub pieceNumber : Order → ℕ → ℕ → ℕ → ℕ
@@ -149,16 +291,30 @@ module _ {l : BlockLayout} {together bands rows columns : ℕ} {o : Order}
       le-parts : {c : Cut} {n : ℕ} → RightCut c → c .length ≡ n → c .parts ≤ n
       le-parts {c} r e = rw (r .parts-are, sym e) (ceil-le (c .length) (c .most) (r .some))
 
+  -- there is a first piece
+  pub some-pieces : 0 < bands → 0 < rows → 0 < columns → 0 < pieceCount o
+  some-pieces hb hr hc =
+      let l = number-lt o (ch .right) 0 0 0 (omega (arith, ch .bands-are)) (omega (arith, ch .rows-are))
+      (omega (arith, ch .columns-are)) in
+      omega arith
+
   module _ (k : ℕ) (h : k < pieceCount o) {q : Piece} (e : q ≡ pieceOf o k) where
-    pub piece-inside : PieceIn bands rows columns q
-    piece-inside =
+    pub piece-within : PieceIn (o .bands .length) (o .rows .length) (o .columns .length) q
+    piece-within =
         let p = parts o k h in
-        rw (e, sym (ch .bands-are), sym (ch .rows-are), sym (ch .columns-are))
+        rw e
         (record {
           in-bands = span-in (o .bands) (ch .right .bands-cut) _ (p .in-bands);
           in-rows = span-in (o .rows) (ch .right .rows-cut) _ (p .in-rows);
           in-columns = span-in (o .columns) (ch .right .columns-cut) _ (p .in-columns);
         })
+
+    pub piece-follows : {p : Piece} → p ≡ nextPiece o q → k + 1 < pieceCount o → p ≡ pieceOf o (k + 1)
+    piece-follows ep l = ep ∙ ap (nextPiece o) e ∙ piece-next o (ch .right) k l
+
+    pub piece-inside : PieceIn bands rows columns q
+    piece-inside =
+        rw (sym (ch .bands-are), sym (ch .rows-are), sym (ch .columns-are)) piece-within
 
     pub piece-way : WayFits (o .way) l (q .bands .count) (q .rows .count)
     piece-way =

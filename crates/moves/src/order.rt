@@ -2,10 +2,12 @@
 // touches are used again soon.
 ghost use mathlib.Core.Path.{_≡_};
 ghost use mathlib.Core.Bool.{true, false};
-ghost use Prim.Native.Nat.{_*_, _%_, _^_, _<_};
+ghost use Prim.Native.Nat.{_+_, _*_, _%_, _^_, _≤_, _<_};
 ghost use Rattle.layout.specs.Internal.Layout.{Sound};
-ghost use Rattle.moves.specs.Internal.Orders.{cutInto, partOf, orderOf, pieceCount, pieceOf, RightCuts, Chosen};
+ghost use Rattle.moves.specs.Internal.Orders.{cutInto, partOf, nextPart, orderOf, pieceCount, pieceOf};
+ghost use Rattle.moves.specs.Internal.Orders.{nextPiece, RightCuts, PieceIn, Chosen};
 use common::min;
+use common::pick;
 use layout::BlockLayout;
 use layout::Strides;
 
@@ -83,6 +85,19 @@ impl Cut {
             count: min(self.most, self.length - from),
         }
     }
+
+    // The part after a part, and after the last the first.
+    fn next(self, part: Span) -> Span
+        requires { ⌜ part .from + part .count ≤ self .length ⌝ }
+        ensures { λ s. ⌜ s ≡ nextPart self part ⌝ }
+    {
+        let end = part.from + part.count;
+        let from = pick(end < self.length, end, 0);
+        Span {
+            from,
+            count: min(self.most, self.length - from),
+        }
+    }
 }
 
 impl Order {
@@ -107,6 +122,36 @@ impl Order {
             bands: bands.part(k % bands.parts),
             rows: rows.part(rest / columns.parts),
             columns: columns.part(rest % columns.parts),
+        }
+    }
+
+    // The piece after a piece.
+    pub fn next(self, piece: Piece) -> Piece
+        requires { ⌜ PieceIn (self .bands .length) (self .rows .length) (self .columns .length) piece ⌝ }
+        ensures { λ p. ⌜ p ≡ nextPiece self piece ⌝ }
+    {
+        let bands = self.bands.next(piece.bands);
+        let rows = piece.rows;
+        let columns = piece.columns;
+        if bands.from > 0 {
+            return Piece {
+                bands,
+                rows,
+                columns,
+            };
+        }
+        let columns = self.columns.next(columns);
+        if columns.from > 0 {
+            return Piece {
+                bands,
+                rows,
+                columns,
+            };
+        }
+        Piece {
+            bands,
+            rows: self.rows.next(rows),
+            columns,
         }
     }
 }

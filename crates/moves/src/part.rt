@@ -139,9 +139,11 @@ pub fn read_part(
     let together = listed_together(all, count);
     let order = choose(layout, together, count, part.rows, part.columns);
     let sides = both_sides(layout, part, rows, columns);
+    let mut piece = order.piece(0);
     for k in 0..order.pieces() {
         let way = order.way;
-        read_piece(src, layout, sides, all, bands, way, order.piece(k), out);
+        read_piece(src, layout, sides, all, bands, way, piece, out);
+        piece = order.next(piece);
     }
 }
 

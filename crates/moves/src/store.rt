@@ -103,9 +103,11 @@ fn put_block(image: &mut [u8], layout: BlockLayout, dat: &[u8])
     let columns = layout.columns;
     let order = choose(layout, STORED_AT_ONCE, layout.bands as usize, rows, columns);
     let sides = both_sides(layout, whole_part(rows, columns), rows, columns);
+    let mut piece = order.piece(0);
     for k in 0..order.pieces() {
         let way = order.way;
-        store_piece(image, layout, sides, way, order.piece(k), dat);
+        store_piece(image, layout, sides, way, piece, dat);
+        piece = order.next(piece);
     }
 }
 

@@ -1,2 +1,3 @@
 -- The laws of `rows`.
 pub mod WholeBytes
+pub mod OneRow

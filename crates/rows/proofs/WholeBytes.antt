@@ -4,18 +4,16 @@ use Prim.Native.Nat.{ℕ, zero, suc, _+_, _-_, _*_, _/_, _≤_, _<_}
 use mathlib.Core.Path.{_≡_, refl, sym, ap, _∙_}
 use mathlib.Core.List.{List}
 use native.Mathlib.Omega.{arith}
-use native.Mathlib.Nat.{suc-mul, mul-le-mul-right}
+use native.Mathlib.Nat.{suc-mul}
 use lib.ListN.{length, take, drop}
-use Rattle.bits.specs.Bits.{Bytes, bitsAt}
+use Rattle.bits.specs.Bits.{Bytes}
 use Rattle.common.specs.Over.{over}
 use Rattle.common.specs.Turns.{iter}
-use Rattle.bits.proofs.Bits.{within}
 use Rattle.common.proofs.Turns.{iter-none, iter-turn, iter-steps, iter-ext}
 use Rattle.bits.specs.Values.{values, sideBySide}
 use Rattle.samples.specs.Internal.Samples.{spaced, putSpaced}
 use Rattle.samples.proofs.Samples.{length-putSpaced, putSpaced-bytes, putSpaced-ext}
 use Rattle.samples.proofs.Moves.{whole, gathered-run, spaced-bytes, putSpaced-run}
-use Rattle.bits.proofs.Values.{values-none, values-run}
 use Rattle.rows.specs.Internal.Rows.{Movable, rowRead, wholeRows, rowWritten}
 
 -- where m rows end, by the last of them
@@ -34,47 +32,21 @@ copied-row xs at row s count i o d b reach ez =
     gathered-run xs (at + i * row) s count d o b reach ez
     ∙ ap (λ (x : ℕ). over d o (values (spaced xs x (8 * s) (8 * s)) s count)) (omega arith)
 
--- m rows of `count` samples that follow each other on both sides
-pub copied-rows : (xs : List ℕ) (at s count to m : ℕ) (d : List ℕ) {row line n : ℕ} {zs : List ℕ} → Bytes xs → n
-    ≡ count * s → row ≡ n → line ≡ n
-    → at + m * n ≤ length xs → to + m * n ≤ length d → zs ≡ over d to (take (m * n) (drop at xs)) → zs
-    ≡ wholeRows xs at row s s count to line m d
-unfolding spaced
-copied-rows xs at s count to m d {row} {line} {n} {zs} b en er el reach room ez =
-    gathered-run xs at s (m * count) d to b (omega (arith, ap (λ (x : ℕ). m * x) en))
-    (ez ∙ ap (λ (x : ℕ). over d to (take x (drop at xs))) size)
-    ∙ sym (rw (er, el, en)
-    (iter-steps (λ i z. z ≡ over d to (values (spaced xs (8 * at) (8 * s) (8 * s)) s (i * count))) m
-    (rowRead xs (8 * at) (8 * (count * s)) (8 * s) (8 * s) s count to (count * s)) d
-    (λ i h z e.
-    let k = mul-le-mul-right s (within i m count h) in
-    let q : (i + 1) * count ≡ i * count + count = omega arith in
-    let o : to + i * (count * s) ≡ to + i * count * s = omega arith in
-    rw q
-    (values-run (spaced xs (8 * at) (8 * s) (8 * s)) (spaced xs (8 * at + i * (8 * (count * s))) (8 * s) (8 * s)) s d
-    to (i * count) count
-    (omega (arith, ap (λ (x : ℕ). m * x) en)) e
-    (ap (λ (x : ℕ). over z x (values (spaced xs (8 * at + i * (8 * (count * s))) (8 * s) (8 * s)) s count)) o)
-    (λ j l. ap (λ (x : ℕ). bitsAt xs x (8 * s)) (omega arith))))
-    (rw (let z : 0 * count ≡ 0 = omega arith in z) (values-none _ s d to))))
-  where
-    size : m * n ≡ m * count * s
-    size = rw en (omega arith)
-
 -- ---- rows in an image
 
--- row i of rows of samples of s whole bytes, side by side in n bytes
-record WholeRow (n at row s count i : ℕ) : Type 0 where
+-- row i of rows of samples of s whole bytes, one every `step` bits, in n bytes
+record WholeRow (n at row step s count i : ℕ) : Type 0 where
   start : 8 * (at / 8 + i * (row / 8)) ≡ at + i * row
-  inside : at / 8 + i * (row / 8) + count * s ≤ n
+  spacing : 8 * (step / 8) ≡ step
+  inside : at / 8 + i * (row / 8) + count * (step / 8) + s ≤ n + step / 8
 
-module _ (n at row step w s count m : ℕ) (e : w ≡ 8 * s) (es : step ≡ w) where
-  whole-row : ((i : ℕ) → i < m → Movable n (at + i * row) step w s count) → (i : ℕ) → i < m
-      → WholeRow n at row s count i
-  whole-row rows i h =
+module _ (n at row step w s count m : ℕ) (e : w ≡ 8 * s) (rows : (i : ℕ) → i < m
+    → Movable n (at + i * row) step w s count) where
+  whole-row : (i : ℕ) → i < m → WholeRow n at row step s count i
+  whole-row i h =
       let z : 8 * (at / 8 + i * (row / 8)) ≡ at + i * row = go i h in
-      let c : count * step ≡ 8 * (count * s) = ap (λ (x : ℕ). count * x) (es ∙ e) ∙ omega arith in
-      record { start = z; inside = omega (arith, rows i h .inside) }
+      let c = whole 0 step count (omega arith, rows i h .whole e .1) in
+      record { start = z; spacing = c .1; inside = omega (arith, rows i h .inside) }
     where
       go : (i : ℕ) → i < m → 8 * (at / 8 + i * (row / 8)) ≡ at + i * row
       go zero h = let f = rows 0 h .whole e .0 in omega (arith, whole at 0 0 (omega arith, omega arith) .0)
@@ -84,19 +56,25 @@ module _ (n at row step w s count m : ℕ) (e : w ≡ 8 * s) (es : step ≡ w) w
           omega (arith, whole at row (suc i) (omega arith, omega arith))
 
   -- they end inside
-  pub rows-end : 0 < m → ((i : ℕ) → i < m → Movable n (at + i * row) step w s count) → at / 8 + m * (row / 8) + count
-      * s ≤ n + row / 8
-  rows-end some rows = omega (arith, last-row m (row / 8) some, whole-row rows (m - 1) (omega arith) .inside)
+  pub rows-end : 0 < m → at / 8 + m * (row / 8) + count * (step / 8) + s ≤ n + step / 8 + row / 8
+  rows-end some = omega (arith, last-row m (row / 8) some, whole-row (m - 1) (omega arith) .inside)
 
-  module _ (rows : (i : ℕ) → i < m → Movable n (at + i * row) step w s count) where
-    -- read
-    pub rows-read : (xs : List ℕ) (to line : ℕ) (d : List ℕ) {zs : List ℕ} → zs ≡ wholeRows xs (at / 8) (row / 8) s s
-        count to line m d
-        → zs ≡ iter m (rowRead xs at row step w s count to line) d
-    rows-read xs to line d ez =
-        ez ∙ iter-ext m _ _ d (λ i h x.
-        let o : 8 * (at / 8) + i * (8 * (row / 8)) ≡ at + i * row = omega (arith, whole-row rows i h .start) in
-        rw (o, es, e) refl)
+  -- read
+  pub rows-read : (xs : List ℕ) (to line : ℕ) (d : List ℕ) {zs : List ℕ} → zs ≡ wholeRows xs (at / 8) (row / 8)
+      (step / 8) s count to line m d → zs ≡ iter m (rowRead xs at row step w s count to line) d
+  rows-read xs to line d ez =
+      ez ∙ iter-ext m _ _ d (λ i h x.
+      let r = whole-row i h in
+      let o : 8 * (at / 8) + i * (8 * (row / 8)) ≡ at + i * row = omega (arith, r .start) in
+      rw (o, r .spacing, e) refl)
+
+  -- side by side
+  module _ (es : step ≡ w) where
+    beside : (k : ℕ) → k * (step / 8) ≡ k * s
+    beside k = ap (λ (x : ℕ). k * x) (let z : step / 8 ≡ s = omega arith in z)
+
+    pub rows-end-beside : 0 < m → at / 8 + m * (row / 8) + count * s ≤ n + row / 8
+    rows-end-beside some = omega (arith, rows-end some, beside count)
 
     -- written
     pub rows-written : (dat : List ℕ) (from line : ℕ) (d : List ℕ) {zs : List ℕ} → Bytes dat → Bytes d → n ≤ length d
@@ -115,13 +93,13 @@ module _ (n at row step w s count m : ℕ) (e : w ≡ 8 * s) (es : step ≡ w) w
             → let y = rowRead dat (8 * from) (8 * line) (8 * s) (8 * s) s count (at / 8) (row / 8) i x in
             (y ≡ iter (i + 1) (rowWritten dat from line s w at row step count) d) × (length y ≡ length d) × Bytes y
         turn i h x p =
-            let r = whole-row rows i h in
+            let r = whole-row i h in
             let put : ℕ = at / 8 + i * (row / 8) in
             let v : ℕ → ℕ = spaced dat (8 * from + i * (8 * line)) (8 * s) (8 * s) in
             let o : 8 * from + i * (8 * line) ≡ 8 * (from + i * line) = omega arith in
             let q : over x put (values v s count) ≡ putSpaced (sideBySide dat (from + i * line) s) w (at + i * row)
             step count x
-            = putSpaced-run v s put count x (p .2) (omega (arith, r .inside))
+            = putSpaced-run v s put count x (p .2) (omega (arith, r .inside, beside count))
             ∙ putSpaced-ext v (sideBySide dat (from + i * line) s) (8 * s) (8 * put) (8 * s) count x
             (λ k l. ap (λ (z : ℕ). spaced dat z (8 * s) (8 * s) k) o
             ∙ sym (spaced-bytes dat (from + i * line) s s k bt))

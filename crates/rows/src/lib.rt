@@ -6,6 +6,7 @@ ghost use Rattle.rows.specs.Internal.Rows.{Movable, rowsRead, rowsWritte
 use samples::read::read_samples;
 use samples::write::write_samples;
 use whole::copy_rows;
+use whole::whole_rows;
 
 pub mod listed;
 pub mod whole;
@@ -31,8 +32,25 @@ pub fn read_rows(
     ensures { λ _. ⌜ now (out .exit) ≡ rowsRead (now (src .entry)) at row step width size count to line rows
         (now (out .entry)) ⌝ }
 {
-    if step == width && width == 8 * size {
-        copy_rows(src, at / 8, row / 8, size, count, out, to, line, rows);
+    // rows that follow each other on both sides are one row; of samples of no bytes there may be too many to count
+    if size > 0 && row == count * step && line == count * size {
+        read_samples(src, at, step, width, size, rows * count, out, to);
+        return;
+    }
+    // a row of no samples may start outside `src`
+    if width == 8 * size && count > 0 {
+        whole_rows(
+            src,
+            at / 8,
+            row / 8,
+            step / 8,
+            size,
+            count,
+            out,
+            to,
+            line,
+            rows,
+        );
         return;
     }
     for i in 0..rows {
@@ -70,6 +88,11 @@ pub fn write_rows(
     ensures { λ _. ⌜ now (img .exit) ≡ rowsWritten (now (dat .entry)) from line size width at row step count rows
         (now (img .entry)) ⌝ }
 {
+    // rows that follow each other on both sides are one row; of samples of no bytes there may be too many to count
+    if size > 0 && row == count * step && line == count * size {
+        write_samples(dat, from, size, img, at, step, width, rows * count);
+        return;
+    }
     if step == width && width == 8 * size {
         copy_rows(dat, from, line, size, count, img, at / 8, row / 8, rows);
         return;

@@ -7,8 +7,7 @@ use bits::bytes::copy;
 use samples::read::gather_any;
 
 // `rows` rows of `count` samples of `size` bytes that stand side by side, from index `at` of `src` to index `to` of
-// `out` on. Rows start `row` bytes apart in `src` and `line` bytes apart in `out`; those that follow each other on
-// both sides are copied as one.
+// `out` on. Rows start `row` bytes apart in `src` and `line` bytes apart in `out`.
 pub fn copy_rows(
     src: &[u8],
     at: usize,
@@ -26,10 +25,6 @@ pub fn copy_rows(
         (now (out .entry)) ⌝ }
 {
     let n = count * size;
-    if row == n && line == n {
-        copy(src, at, rows * n, out, to);
-        return;
-    }
     for i in 0..rows {
         copy(src, at + i * row, n, out, to + i * line);
     }
@@ -86,5 +81,31 @@ pub fn gather_rows(
         4 => gather_rows_any(src, at, row, step, 4, count, out, to, line, rows),
         8 => gather_rows_any(src, at, row, step, 8, count, out, to, line, rows),
         _ => gather_rows_any(src, at, row, step, size, count, out, to, line, rows),
+    }
+}
+
+// The same: copied where the samples stand side by side, and else gathered.
+pub fn whole_rows(
+    src: &[u8],
+    at: usize,
+    row: usize,
+    step: usize,
+    size: usize,
+    count: usize,
+    out: &mut [u8],
+    to: usize,
+    line: usize,
+    rows: usize,
+)
+    requires { ⌜ (size ≤ 8) × (0 < count) × (0 < rows) ⌝ }
+    requires { ⌜ at + rows * row + count * step + size ≤ length (now src) + step + row ⌝ }
+    requires { ⌜ to + rows * line + count * size ≤ length (now out) + line ⌝ }
+    ensures { λ _. ⌜ now (out .exit) ≡ wholeRows (now (src .entry)) at row step size count to line rows
+        (now (out .entry)) ⌝ }
+{
+    if step == size {
+        copy_rows(src, at, row, size, count, out, to, line, rows)
+    } else {
+        gather_rows(src, at, row, step, size, count, out, to, line, rows)
     }
 }

@@ -3,7 +3,9 @@
 use Prim.Native.Nat.{ℕ, _+_, _-_, _*_, _/_, _%_, min, _≤_, _<_}
 use mathlib.Core.Path.{_≡_}
 use mathlib.Core.Bool.{Bool, true, false}
+use lib.Dec.{ltb}
 use Rattle.common.specs.Rounding.{ceilDiv}
+use Rattle.common.specs.Tests.{pick}
 use Rattle.layout.specs.declared.BlockLayout.{BlockLayout}
 use Rattle.layout.specs.Internal.Spacing.{hasStrides, bandStride}
 use Rattle.moves.specs.declared.order.Cut.{Cut}
@@ -20,6 +22,13 @@ cutInto length most = record { length = length; most = most; parts = ceilDiv len
 
 abbrev pub partOf : Cut → ℕ → Span
 partOf c p = record { from = p * c .most; count = min (c .most) (c .length - p * c .most) }
+
+-- the part after a part, and after the last the first
+abbrev pub nextFrom : Cut → Span → ℕ
+nextFrom c s = pick (ltb (s .from + s .count) (c .length)) (s .from + s .count) 0
+
+abbrev pub nextPart : Cut → Span → Span
+nextPart c s = record { from = nextFrom c s; count = min (c .most) (c .length - nextFrom c s) }
 
 pub record RightCut (c : Cut) : Type 0 where
   pub some : 0 < c .most
@@ -51,6 +60,20 @@ pieceOf o k =
       rows = partOf (o .rows) (k / o .bands .parts / o .columns .parts);
       columns = partOf (o .columns) (k / o .bands .parts % o .columns .parts);
     }
+
+-- the piece after a piece, by the next parts of the bands, the columns and the rows: the first; where the bands begin
+-- again the second too, and where the columns do the third
+abbrev pub advanced : (bands columns rows : Span) → Piece → Piece
+advanced bands columns rows p =
+    pick (ltb 0 (bands .from))
+    (record { bands = bands; rows = p .rows; columns = p .columns })
+    (pick (ltb 0 (columns .from))
+    (record { bands = bands; rows = p .rows; columns = columns })
+    (record { bands = bands; rows = rows; columns = columns }))
+
+abbrev pub nextPiece : Order → Piece → Piece
+nextPiece o p =
+    advanced (nextPart (o .bands) (p .bands)) (nextPart (o .columns) (p .columns)) (nextPart (o .rows) (p .rows)) p
 
 pub record RightCuts (o : Order) : Type 0 where
   pub bands-cut : RightCut (o .bands)
