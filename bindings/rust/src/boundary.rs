@@ -3,27 +3,6 @@
 
 use crate::{Bands, Grid, ImageDataMask, InterleaveMode, Window};
 
-/// The grid's numbers, with IMODE as its letter's byte.
-#[repr(C)]
-pub(crate) struct GridNumbers {
-    pub nrows: u32,
-    pub ncols: u32,
-    pub bands: u32,
-    pub nbpp: u32,
-    pub imode: u8,
-    pub nppbh: u32,
-    pub nppbv: u32,
-    pub nbpr: u32,
-    pub nbpc: u32,
-}
-
-impl From<&Grid> for GridNumbers {
-    fn from(grid: &Grid) -> GridNumbers {
-        let Grid { nrows, ncols, bands, nbpp, imode, nppbh, nppbv, nbpr, nbpc } = *grid;
-        GridNumbers { nrows, ncols, bands, nbpp, imode: imode.letter(), nppbh, nppbv, nbpr, nbpc }
-    }
-}
-
 /// Sizes of a grid.
 #[repr(C)]
 pub(crate) struct Sizes {
@@ -102,71 +81,71 @@ extern "C" {
 
     fn gezdunar_grid(
         nrows: u32, ncols: u32, bands: u32, nbpp: u32, imode: u8, nppbv: u32, nppbh: u32,
-    ) -> GridNumbers;
+    ) -> Grid;
 
-    fn gezdunar_grid_check(grid: GridNumbers) -> u32;
+    fn gezdunar_grid_check(grid: Grid) -> u32;
 
-    fn gezdunar_grid_sizes(grid: GridNumbers) -> Sizes;
+    fn gezdunar_grid_sizes(grid: Grid) -> Sizes;
 
     fn gezdunar_decode_block(
-        image: *const u8, image_length: usize, grid: GridNumbers,
+        image: *const u8, image_length: usize, grid: Grid,
         block_row: u32, block_col: u32, resolution_level: u32,
         all: bool, list: *const u32, list_length: usize, out: *mut u8, out_length: usize,
     ) -> Shape;
 
     fn gezdunar_whole_block(
-        image: *const u8, image_length: usize, grid: GridNumbers,
+        image: *const u8, image_length: usize, grid: Grid,
         block_row: u32, block_col: u32,
     ) -> Place;
 
     fn gezdunar_read_window(
-        image: *const u8, image_length: usize, grid: GridNumbers,
+        image: *const u8, image_length: usize, grid: Grid,
         row: u32, column: u32, rows: u32, columns: u32,
         all: bool, list: *const u32, list_length: usize, out: *mut u8, out_length: usize,
     ) -> Shape;
 
     fn gezdunar_start(
-        image: *mut u8, image_length: usize, marks: *mut u64, marks_length: usize, grid: GridNumbers,
+        image: *mut u8, image_length: usize, marks: *mut u64, marks_length: usize, grid: Grid,
     ) -> Answer;
 
     fn gezdunar_encode_block(
-        image: *mut u8, image_length: usize, marks: *mut u64, marks_length: usize, grid: GridNumbers,
+        image: *mut u8, image_length: usize, marks: *mut u64, marks_length: usize, grid: Grid,
         block_row: u32, block_col: u32, shape_bands: usize, shape_rows: usize, shape_columns: usize,
         data: *const u8, data_length: usize,
     ) -> Answer;
 
     fn gezdunar_skip_block(
-        image: *const u8, image_length: usize, marks: *mut u64, marks_length: usize, grid: GridNumbers,
+        image: *const u8, image_length: usize, marks: *mut u64, marks_length: usize, grid: Grid,
         block_row: u32, block_col: u32,
     ) -> Answer;
 
-    fn gezdunar_progress(marks: *const u64, marks_length: usize, grid: GridNumbers) -> Answer;
+    fn gezdunar_progress(marks: *const u64, marks_length: usize, grid: Grid) -> Answer;
 
     fn gezdunar_finalize(
-        image: *const u8, image_length: usize, marks: *const u64, marks_length: usize, grid: GridNumbers,
+        image: *const u8, image_length: usize, marks: *const u64, marks_length: usize, grid: Grid,
     ) -> Answer;
 
-    fn gezdunar_mask_parse(table: *const u8, table_length: usize, grid: GridNumbers) -> Parsed;
+    fn gezdunar_mask_parse(table: *const u8, table_length: usize, grid: Grid) -> Parsed;
 
     fn gezdunar_mask_write(
-        grid: GridNumbers,
+        grid: Grid,
         block_record_length: u16, pad_record_length: u16, code_length: u16, code: u32,
         block_offsets: *const u32, block_offsets_length: usize, pad_offsets: *const u32, pad_offsets_length: usize,
         out: *mut u8, out_length: usize,
     ) -> Written;
 
     fn gezdunar_has_block(
-        table: *const u8, table_length: usize, grid: GridNumbers,
+        table: *const u8, table_length: usize, grid: Grid,
         block_row: u32, block_col: u32, band: u32,
     ) -> Present;
 
     fn gezdunar_get_block_offset(
-        table: *const u8, table_length: usize, grid: GridNumbers,
+        table: *const u8, table_length: usize, grid: Grid,
         block_row: u32, block_col: u32, band: u32,
     ) -> BlockOffset;
 
     fn gezdunar_mask_from_marks(
-        marks: *const u64, marks_length: usize, grid: GridNumbers,
+        marks: *const u64, marks_length: usize, grid: Grid,
         out: *mut u32, out_length: usize,
     ) -> Parsed;
 
@@ -204,19 +183,19 @@ pub(crate) fn grid(
     imode: InterleaveMode,
     nppbv: u32,
     nppbh: u32,
-) -> GridNumbers {
-    // SAFETY: only numbers.
+) -> Grid {
+    // SAFETY: only numbers; the answer has the letter of IMODE that is handed in.
     unsafe { gezdunar_grid(nrows, ncols, bands, nbpp, imode.letter(), nppbv, nppbh) }
 }
 
 pub(crate) fn grid_check(grid: &Grid) -> u32 {
     // SAFETY: only numbers.
-    unsafe { gezdunar_grid_check(grid.into()) }
+    unsafe { gezdunar_grid_check(*grid) }
 }
 
 pub(crate) fn grid_sizes(grid: &Grid) -> Sizes {
     // SAFETY: only numbers.
-    unsafe { gezdunar_grid_sizes(grid.into()) }
+    unsafe { gezdunar_grid_sizes(*grid) }
 }
 
 pub(crate) fn decode_block(
@@ -236,7 +215,7 @@ pub(crate) fn decode_block(
         gezdunar_decode_block(
             image.as_ptr(),
             image.len(),
-            grid.into(),
+            *grid,
             block_row,
             block_col,
             resolution_level,
@@ -251,7 +230,7 @@ pub(crate) fn decode_block(
 
 pub(crate) fn whole_block(image: &[u8], grid: &Grid, block_row: u32, block_col: u32) -> Place {
     // SAFETY: borrowed slice.
-    unsafe { gezdunar_whole_block(image.as_ptr(), image.len(), grid.into(), block_row, block_col) }
+    unsafe { gezdunar_whole_block(image.as_ptr(), image.len(), *grid, block_row, block_col) }
 }
 
 pub(crate) fn read_window(image: &[u8], grid: &Grid, window: Window, bands: Bands<'_>, out: &mut [u8]) -> Shape {
@@ -264,7 +243,7 @@ pub(crate) fn read_window(image: &[u8], grid: &Grid, window: Window, bands: Band
         gezdunar_read_window(
             image.as_ptr(),
             image.len(),
-            grid.into(),
+            *grid,
             row,
             column,
             rows,
@@ -280,7 +259,7 @@ pub(crate) fn read_window(image: &[u8], grid: &Grid, window: Window, bands: Band
 
 pub(crate) fn start(image: &mut [u8], marks: &mut [u64], grid: &Grid) -> Answer {
     // SAFETY: borrowed slices.
-    unsafe { gezdunar_start(image.as_mut_ptr(), image.len(), marks.as_mut_ptr(), marks.len(), grid.into()) }
+    unsafe { gezdunar_start(image.as_mut_ptr(), image.len(), marks.as_mut_ptr(), marks.len(), *grid) }
 }
 
 pub(crate) fn encode_block(
@@ -299,7 +278,7 @@ pub(crate) fn encode_block(
             image.len(),
             marks.as_mut_ptr(),
             marks.len(),
-            grid.into(),
+            *grid,
             block_row,
             block_col,
             shape.bands,
@@ -319,7 +298,7 @@ pub(crate) fn skip_block(image: &[u8], marks: &mut [u64], grid: &Grid, block_row
             image.len(),
             marks.as_mut_ptr(),
             marks.len(),
-            grid.into(),
+            *grid,
             block_row,
             block_col,
         )
@@ -328,17 +307,17 @@ pub(crate) fn skip_block(image: &[u8], marks: &mut [u64], grid: &Grid, block_row
 
 pub(crate) fn progress(marks: &[u64], grid: &Grid) -> Answer {
     // SAFETY: borrowed slice.
-    unsafe { gezdunar_progress(marks.as_ptr(), marks.len(), grid.into()) }
+    unsafe { gezdunar_progress(marks.as_ptr(), marks.len(), *grid) }
 }
 
 pub(crate) fn finalize(image: &[u8], marks: &[u64], grid: &Grid) -> Answer {
     // SAFETY: borrowed slices.
-    unsafe { gezdunar_finalize(image.as_ptr(), image.len(), marks.as_ptr(), marks.len(), grid.into()) }
+    unsafe { gezdunar_finalize(image.as_ptr(), image.len(), marks.as_ptr(), marks.len(), *grid) }
 }
 
 pub(crate) fn mask_parse(table: &[u8], grid: &Grid) -> Parsed {
     // SAFETY: borrowed slice.
-    unsafe { gezdunar_mask_parse(table.as_ptr(), table.len(), grid.into()) }
+    unsafe { gezdunar_mask_parse(table.as_ptr(), table.len(), *grid) }
 }
 
 pub(crate) fn mask_write(
@@ -352,7 +331,7 @@ pub(crate) fn mask_write(
     // SAFETY: borrowed slices.
     unsafe {
         gezdunar_mask_write(
-            grid.into(),
+            *grid,
             mask.block_mask_record_length,
             mask.pad_pixel_mask_record_length,
             mask.pad_pixel_code_length,
@@ -369,17 +348,17 @@ pub(crate) fn mask_write(
 
 pub(crate) fn has_block(table: &[u8], grid: &Grid, block_row: u32, block_col: u32, band: u32) -> Present {
     // SAFETY: borrowed slice.
-    unsafe { gezdunar_has_block(table.as_ptr(), table.len(), grid.into(), block_row, block_col, band) }
+    unsafe { gezdunar_has_block(table.as_ptr(), table.len(), *grid, block_row, block_col, band) }
 }
 
 pub(crate) fn get_block_offset(table: &[u8], grid: &Grid, block_row: u32, block_col: u32, band: u32) -> BlockOffset {
     // SAFETY: borrowed slice.
-    unsafe { gezdunar_get_block_offset(table.as_ptr(), table.len(), grid.into(), block_row, block_col, band) }
+    unsafe { gezdunar_get_block_offset(table.as_ptr(), table.len(), *grid, block_row, block_col, band) }
 }
 
 pub(crate) fn mask_from_marks(marks: &[u64], grid: &Grid, out: &mut [u32]) -> Parsed {
     // SAFETY: borrowed slices.
-    unsafe { gezdunar_mask_from_marks(marks.as_ptr(), marks.len(), grid.into(), out.as_mut_ptr(), out.len()) }
+    unsafe { gezdunar_mask_from_marks(marks.as_ptr(), marks.len(), *grid, out.as_mut_ptr(), out.len()) }
 }
 
 pub(crate) fn to_band_sequential(

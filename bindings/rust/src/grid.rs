@@ -1,10 +1,12 @@
 //! The grid record and its sizes.
 
-use crate::boundary::{self, GridNumbers};
+use crate::boundary;
 use crate::refusal::accepted;
 use crate::{InterleaveMode, Refusal};
 
-/// A picture in blocks. The fields have the names of MIL-STD-2500C, but for `bands`, its NBANDS or XBANDS.
+/// A picture in blocks. The fields have the names of MIL-STD-2500C, but for `bands`, its NBANDS or XBANDS. It crosses the
+/// C boundary as it is: the header's struct `gezdunar_grid`.
+#[repr(C)]
 #[derive(Debug, Clone, Copy, PartialEq, Eq, Hash)]
 pub struct Grid {
     /// Rows of the picture.
@@ -70,8 +72,7 @@ impl Grid {
     /// assert_eq!((grid.nbpr, grid.nbpc), (2, 2));
     /// ```
     pub fn new(nrows: u32, ncols: u32, bands: u32, nbpp: u32, imode: InterleaveMode, nppbh: u32, nppbv: u32) -> Grid {
-        let GridNumbers { nbpr, nbpc, .. } = boundary::grid(nrows, ncols, bands, nbpp, imode, nppbv, nppbh);
-        Grid { nrows, ncols, bands, nbpp, imode, nppbh, nppbv, nbpr, nbpc }
+        boundary::grid(nrows, ncols, bands, nbpp, imode, nppbv, nppbh)
     }
 
     /// Questions 1 to 4. Numbers: 1 to 4.

@@ -4,17 +4,18 @@ use crate::Refusal;
 use std::fmt;
 use std::str::FromStr;
 
-/// IMODE: the order in which the samples of an image stand.
+/// IMODE: the order in which the samples of an image stand. Each is its letter's byte.
+#[repr(u8)]
 #[derive(Debug, Clone, Copy, PartialEq, Eq, Hash)]
 pub enum InterleaveMode {
     /// Band after band in each block.
-    B,
+    B = b'B',
     /// Pixel after pixel, with all bands of a pixel together.
-    P,
+    P = b'P',
     /// Row after row, with all bands of a row together.
-    R,
+    R = b'R',
     /// Band after band over the whole image, with the blocks inside each band.
-    S,
+    S = b'S',
 }
 
 impl InterleaveMode {
@@ -27,12 +28,7 @@ impl InterleaveMode {
     /// assert_eq!(gezdunar::InterleaveMode::P.letter(), b'P');
     /// ```
     pub fn letter(self) -> u8 {
-        match self {
-            InterleaveMode::B => b'B',
-            InterleaveMode::P => b'P',
-            InterleaveMode::R => b'R',
-            InterleaveMode::S => b'S',
-        }
+        self as u8
     }
 
     /// The mode of a letter's byte; [`Refusal::NoMode`] (99) for any other byte.
