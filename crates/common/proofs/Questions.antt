@@ -29,6 +29,13 @@ unfolding outcome
 outcome-no zero accepted refused ne = absurd (ne refl)
 outcome-no (suc n) accepted refused ne = refl
 
+-- where the answer has its own number, acceptance is known by it
+pub outcome-zero {ℓ} : {A : Type ℓ} (n : ℕ) (accepted : A) (refused : ℕ → A) (number : A → ℕ)
+    → ((k : ℕ) → number (refused k) ≡ k) → number (outcome n accepted refused) ≡ 0 → n ≡ 0
+unfolding outcome
+outcome-zero zero accepted refused number own e = refl
+outcome-zero (suc n) accepted refused number own e = sym (own (suc n)) ∙ e
+
 -- the same of a number that the code has as k
 pub refused-by {ℓ} : {A : Type ℓ} {k n : ℕ} (accepted : A) (refused : ℕ → A) → k ≡ n → (k ≡ 0 → ⊥) → refused k ≡ outcome n accepted refused
 refused-by {n = n} accepted refused e ne = ap refused e ∙ sym (outcome-no n accepted refused (λ z. ne (e ∙ z)))

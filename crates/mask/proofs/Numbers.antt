@@ -9,7 +9,7 @@ use native.Mathlib.Decide.{ℕ-discrete}
 use native.Mathlib.Omega.{arith}
 use lib.Dec.{lit<}
 use lib.ListN.{length}
-use borrow.Author.Tests.{eqb-true, leb-true, ltb-true, ne-eqb, le-leb, lt-ltb}
+use borrow.Author.Tests.{eqb-true, leb-true, ltb-true, eq-eqb, ne-eqb, le-leb, lt-ltb}
 use Rattle.common.specs.Tests.{every, some}
 use Rattle.common.proofs.Questions.{Before, ask-before, ask-inv}
 use Rattle.common.proofs.Tests.{every-at, true-false}
@@ -154,6 +154,21 @@ mask-write-facts g mask n m l e =
       pad-list = eqb-true _ _ (lists 1);
       room = leb-true _ _ (r .0);
     }
+
+pub mask-write-yes : (g : Grid) (mask : ImageDataMask) (n m l : ℕ) → MaskWrite g mask n m l
+    → maskWriteNumber g mask n m l ≡ 0
+unfolding maskWriteNumber every
+mask-write-yes g mask n m l w =
+    grid-yes g _ (w .accepted)
+    ∙ rw (
+      w .record-lengths,
+      le-leb _ _ (w .code-length),
+      lt-ltb _ _ (w .code),
+      le-leb _ _ (w .size),
+      eq-eqb _ _ (w .block-list),
+      eq-eqb _ _ (w .pad-list),
+      le-leb _ _ (w .room),
+    )
 
 -- ---- the mask from marks
 

@@ -1,7 +1,7 @@
 -- What is read is written again, and what is written is read again; lookup in a written table; the words that the mask
 -- from marks fills.
 -- Assumes nothing.
-use mathlib.Core.Path.{_≡_, sym, ap, _∙_}
+use mathlib.Core.Path.{_≡_, refl, sym, ap, _∙_}
 use mathlib.Core.Bool.{true, false, not}
 use mathlib.Core.List.{List, _++_, append-assoc}
 use mathlib.Core.Logic.{_⊎_, inl, inr}
@@ -14,37 +14,31 @@ use lib.ListN.{length, getD, take, drop, length-append, List·getD-append}
 use lib.Seq.{take-add, getD-append-add}
 use Rattle.common.specs.Lists.{tabulate}
 use Rattle.common.specs.Questions.{outcome}
+use Rattle.common.specs.Over.{over}
 use Rattle.common.specs.Tests.{pick}
+use Rattle.common.proofs.Questions.{outcome-yes, outcome-zero}
 use Rattle.common.proofs.Tests.{pick-yes, pick-no}
 use Rattle.bits.specs.Bits.{Bytes, beAt, beBytes}
 use Rattle.bits.specs.Values.{values, sideBySide}
-use Rattle.bits.proofs.Bits.{within}
-use Rattle.bits.proofs.BigEndian.{length-beBytes}
+use Rattle.bits.proofs.Bits.{within, bitsAt-lt}
+use Rattle.bits.proofs.BigEndian.{length-beBytes, bitsAt-bytes}
 use Rattle.bits.proofs.Values.{length-values, values-ext, side-by-side, beAt-ext, beAt-beBytes, beAt-values, beBytes-beAt}
 use Rattle.layout.specs.Order.{bandsApart}
 use Rattle.grid.specs.declared.Grid.{Grid}
 use Rattle.grid.specs.Layout.{Block}
 use Rattle.mask.specs.declared.ImageDataMask.{ImageDataMask}
 use Rattle.mask.specs.Table.{records, lookupRecord, filledBlock, codeBytes, tableSize, maskSize, header, blockRecord, offsetBytes, tableBytes}
+use Rattle.mask.specs.declared.Parsed.{Parsed}
+use Rattle.mask.specs.Mask.{WrittenOut, writtenWith, notWritten, noParse, toBytes}
 use Rattle.mask.specs.Mask.{entries, parseNumber, parse, maskWriteNumber, markRecord, markRecords, lookupNumber, recordOf, isPresent, hasBlock, isGiven, offsetIf, getBlockOffset}
+use Rattle.mask.specs.RoundTrip.{ownRecords, ownBlockRecords, ownPadRecords, ParsedComesBack, writtenMask, WrittenComesBack}
 use Rattle.mask.proofs.Tabulate.{length-tabulate, getD-tabulate}
 use Rattle.mask.proofs.Records.{lookup-lt}
-use Rattle.mask.proofs.Numbers.{Parse, parse-facts, parse-yes, lookup-yes, MaskWrite, mask-write-facts, block-length, pad-length}
+use Rattle.mask.proofs.Numbers.{Parse, parse-facts, parse-yes, lookup-yes, MaskWrite, mask-write-facts}
+use Rattle.mask.proofs.Numbers.{mask-write-yes, block-length, pad-length}
 use Rattle.mask.proofs.TableWrites.{size-entries, size-is}
 
 -- ---- read, then written
-
--- the n four-byte numbers of a table from an index on
-abbrev pub ownRecords : List ℕ → ℕ → ℕ → List ℕ
-ownRecords table at n = tabulate n (λ k. beAt table (at + k * 4) 4)
-
--- the block records and the pad records of a table; none for record length 0
-abbrev pub ownBlockRecords : Grid → List ℕ → List ℕ
-ownBlockRecords g table = ownRecords table (10 + codeBytes (beAt table 8 2)) (entries g (beAt table 4 2))
-
-abbrev pub ownPadRecords : Grid → List ℕ → List ℕ
-ownPadRecords g table =
-    ownRecords table (10 + codeBytes (beAt table 8 2) + entries g (beAt table 4 2) * 4) (entries g (beAt table 6 2))
 
 -- the bytes of a table's own records
 own-bytes : (table : List ℕ) (at n : ℕ) → Bytes table → at + n * 4 ≤ length table
@@ -88,6 +82,50 @@ parsed-written g table b z o =
       beBytes-beAt table 10 c b (omega arith),
     )
     (parts table c (n * 4) (m * 4) ∙ ap (λ (i : ℕ). take i table) (sym size ∙ sym o))
+
+-- what parse and the write make of their numbers
+parse-number : (g : Grid) (table : List ℕ) → parse g table .number ≡ 0 → parseNumber g table ≡ 0
+unfolding parse
+parse-number g table e = outcome-zero _ _ noParse (λ (p : Parsed). p .number) (λ n. refl) e
+
+parse-is : (g : Grid) (table : List ℕ) → parseNumber g table ≡ 0
+    → parse g table ≡ record { number = 0; mask = header table; used = maskSize g (header table) }
+unfolding parse
+parse-is g table z = outcome-yes _ noParse z
+
+-- a number of s bytes fits them
+beAt-lt : (table : List ℕ) (k s : ℕ) → Bytes table → beAt table k s < 2 ^ (8 * s)
+beAt-lt table k s b = rw (← bitsAt-bytes table k s b) (bitsAt-lt table (8 * k) (8 * s))
+
+-- the write accepts a parsed table's own header and records
+own-accepted : (g : Grid) (table : List ℕ) (l : ℕ) → Bytes table → parseNumber g table ≡ 0
+    → header table .«image_data_offset» ≡ maskSize g (header table) → maskSize g (header table) ≤ l
+    → maskWriteNumber g (header table) (length (ownBlockRecords g table)) (length (ownPadRecords g table)) l ≡ 0
+own-accepted g table l b z o room =
+    let t = parse-facts g table z in
+    let size : beAt table 0 4 < 2 ^ (8 * 4) = beAt-lt table 0 4 b in
+    mask-write-yes g (header table) _ _ l record {
+      accepted = t .accepted;
+      record-lengths = t .record-lengths;
+      code-length = t .code-length;
+      code = beAt-lt table 10 (codeBytes (beAt table 8 2)) b;
+      size = omega (arith, size, o);
+      block-list = length-tabulate (entries g (beAt table 4 2)) _;
+      pad-list = length-tabulate (entries g (beAt table 6 2)) _;
+      room = room;
+    }
+
+pub parsed-comes-back : ParsedComesBack
+unfolding toBytes
+parsed-comes-back g table out b e o room =
+    let z : parseNumber g table ≡ 0 = parse-number g table e in
+    let p = parse-is g table z in
+    let own : header table .«image_data_offset» ≡ maskSize g (header table)
+    = sym (ap (λ (x : Parsed). x .mask .«image_data_offset») p) ∙ o ∙ ap (λ (x : Parsed). x .used) p in
+    rw p
+    (outcome-yes _ _ (own-accepted g table (length out) b z own (rw p at room))
+    ∙ ap (λ (l : List ℕ). writtenWith (record { number = 0; bytes = maskSize g (header table) }) (over out 0 l))
+    (parsed-written g table b z own))
 
 -- ---- written, then read
 
@@ -151,17 +189,6 @@ behind m rest p s =
     let e : 10 + n + p ≡ 4 + (2 + (2 + (2 + (n + p)))) = omega arith in
     ap (λ (i : ℕ). beAt (headed m rest) i s) e
     ∙ skip 4 _ _ _ s ∙ skip 2 _ _ _ s ∙ skip 2 _ _ _ s ∙ skip 2 _ _ _ s ∙ skip n _ _ p s
-
--- a mask as it is read from the table that it was written to
-abbrev pub writtenMask : Grid → ImageDataMask → ImageDataMask
-writtenMask g mask =
-    record {
-      «image_data_offset» = maskSize g mask;
-      «block_mask_record_length» = mask .«block_mask_record_length»;
-      «pad_pixel_mask_record_length» = mask .«pad_pixel_mask_record_length»;
-      «pad_pixel_code_length» = mask .«pad_pixel_code_length»;
-      «pad_pixel_code» = mask .«pad_pixel_code»;
-    }
 
 length-lt : {n : ℕ} → (n ≡ 0) ⊎ (n ≡ 4) → n < 2 ^ 16
 length-lt (inl e) = omega arith
@@ -258,6 +285,14 @@ module _ (g : Grid) (mask : ImageDataMask) (blockOffsets padOffsets rest : List 
         pub offset-written : getBlockOffset g table row column band ≡ offsetIf (not (eqb entry 0xFFFF_FFFF)) entry
         unfolding getBlockOffset outcome isGiven pick
         offset-written = rw (found, has-records, lookup-written)
+
+pub written-comes-back : WrittenComesBack
+unfolding toBytes over
+written-comes-back g mask blockOffsets padOffsets out e =
+    let z : maskWriteNumber g mask (length blockOffsets) (length padOffsets) (length out) ≡ 0
+    = outcome-zero _ _ _ (λ (w : WrittenOut). w .answer .number) (λ n. refl) e in
+    rw (outcome-yes _ (λ n. writtenWith (notWritten n) out) z)
+    (written-parsed g mask blockOffsets padOffsets _ (length out) z)
 
 -- ---- the records that the mask from marks fills
 

@@ -1,3 +1,4 @@
 -- The image data mask table.
 pub mod Table
 pub mod Mask
+pub mod RoundTrip
