@@ -12,14 +12,10 @@ use Rattle.grid.specs.declared.Grid.{Grid}
 use Rattle.grid.specs.Sizes.{sampleBytes, actualRows, actualColumns}
 use Rattle.grid.specs.Layout.{place, wholeStart, wholeLength}
 use Rattle.calls.specs.declared.Shape.{Shape}
+use Rattle.calls.specs.Answers.{Filled}
 use Rattle.calls.specs.Orders.{blockNumber, wholeNumber, Window, windowNumber}
 
 -- ---- answers
-
--- a read's answer and the output it leaves
-pub record Filled : Type 0 where
-  pub shape : Shape
-  pub out : List ℕ
 
 abbrev pub filledWith : Shape → List ℕ → Filled
 filledWith shape out = record { shape = shape; out = out }
@@ -63,6 +59,10 @@ wholeBlock g image row column =
     outcome (wholeNumber g (length image) row column)
     (take (wholeLength g) (drop (wholeStart g row column) image))
     (λ n. [])
+
+-- where that part starts: the image's index; 0 for an empty part
+unfoldable pub wholeAt : Grid → ℕ → ℕ → ℕ → ℕ
+wholeAt g n row column = outcome (wholeNumber g n row column) (wholeStart g row column) (λ k. 0)
 
 -- ---- the window
 

@@ -15,6 +15,7 @@ use Rattle.grid.specs.Layout.{runByte, place}
 use Rattle.marks.specs.declared.FirstUnmarked.{FirstUnmarked}
 use Rattle.marks.specs.Marks.{markWords, marked, mark, count, firstNot, unmarkedNumber, unmarkedRow, unmarkedColumn}
 use Rattle.calls.specs.declared.Answer.{Answer}
+use Rattle.calls.specs.Answers.{FrameOut}
 use Rattle.calls.specs.Orders.{startNumber, writeNumber, skipNumber, progressNumber}
 
 -- ---- answers
@@ -34,12 +35,6 @@ abbrev pub finishAnswer : ℕ → Grid → (ℕ → Bool) → Answer
 finishAnswer n g test = outcome n (unmarkedAnswer (firstNot test (g .nbpr) (g .nbpc))) number
 
 -- ---- what a call leaves
-
--- the image and the mark words that a call was lent, with its answer
-pub record FrameOut : Type 0 where
-  pub answer : Answer
-  pub image : List ℕ
-  pub marks : List ℕ
 
 abbrev pub frameOut : Answer → List ℕ → List ℕ → FrameOut
 frameOut answer image marks = record { answer = answer; image = image; marks = marks }

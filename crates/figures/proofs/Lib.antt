@@ -1,2 +1,3 @@
--- The figures' theorem.
+-- The figures' theorem, and demand 3 at one of them.
 pub mod Agree
+pub mod Cited

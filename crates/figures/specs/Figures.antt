@@ -14,14 +14,16 @@ use Rattle.grid.specs.Layout.{place}
 use Rattle.layout.specs.Bands.{Bands, bandsOf}
 use Rattle.common.specs.Lists.{tabulate}
 use Rattle.calls.specs.declared.Answer.{Answer}
-use Rattle.calls.specs.Reads.{Filled, blockRead, window}
+use Rattle.calls.specs.Answers.{Filled, FrameOut}
+use Rattle.calls.specs.Reads.{blockRead, window}
 use Rattle.calls.specs.Orders.{Window}
-use Rattle.calls.specs.Writes.{FrameOut, start, write, progress, finish}
+use Rattle.calls.specs.Writes.{start, write, progress, finish}
 use Rattle.mask.specs.Mask.{WrittenOut, marksMask, toBytes}
+use Rattle.figures.specs.Instance.{byCalls, byPlainFrame, byHand}
 
--- the figures' letters
+-- the figures' letters; `no-letter` has the list of calls that is told by the calls and by the plain frame
 pub data Letter : Type 0 where
-  fig-a fig-b fig-c fig-d fig-e fig-f fig-g fig-h fig-i fig-j fig-k fig-l fig-m fig-n : Letter
+  fig-a fig-b fig-c fig-d fig-e fig-f fig-g fig-h fig-i fig-j fig-k fig-l fig-m fig-n no-letter : Letter
 
 pub record Figure : Type 0 where
   pub letter : Letter
@@ -70,9 +72,8 @@ unfoldable pub imageWith : Grid → ℕ → ℕ → List ℕ → List ℕ
 imageWith grid row column vs = laid grid row column 0 vs (replicate (imageBytes grid) 0)
 
 -- a run of calls: a start on an image and a mark word of ones, a write of block (row, column), progress, finish, and a
--- window on the
--- written row: the numbers of start and write, the count of progress, the number of finish, the image, the window's
--- bytes
+-- window on the written row: the numbers of start and write, the count of progress, the number of finish, the image,
+-- the window's bytes
 unfoldable pub runOf : Grid → ℕ → ℕ → ℕ → ℕ → List ℕ → List ℕ
 runOf grid row column rows columns dat =
     let s : FrameOut = start grid (replicate (imageBytes grid) 255) ((2 ^ 64 - 1) ∷ []) in
@@ -83,6 +84,12 @@ runOf grid row column rows columns dat =
     = record { row = 0; column = column * grid .nppbh; rows = 1; columns = columns; bands = everyBand } in
     let seen : Filled = window grid (w .image) part (replicate (columns * sampleBytes grid) 0) in
     s .answer .number ∷ w .answer .number ∷ p .first ∷ f .number ∷ (w .image ++ seen .out)
+
+-- a write of block (row, column) on an image of ones that no start has cleared: its number and the image
+unfoldable pub writeOver : Grid → ℕ → ℕ → ℕ → ℕ → List ℕ → List ℕ
+writeOver grid row column rows columns dat =
+    let w : FrameOut = write grid (replicate (imageBytes grid) 255) (0 ∷ []) row column 1 rows columns dat in
+    w .answer .number ∷ w .image
 
 -- the table of a picture of two blocks in B, written to 18 bytes: the number and the bytes
 unfoldable pub maskOf : List ℕ → List ℕ
@@ -111,6 +118,13 @@ figures =
       found = imageWith (line 12 3) 0 0 (0x123 ∷ 0x456 ∷ 0x789 ∷ []);
       paper = 0x12 ∷ 0x34 ∷ 0x56 ∷ 0x78 ∷ 0x90 ∷ [];
     }
+    ∷ record {
+      letter = fig-k;
+      found = runOf (line 12 3) 0 0 1 3 (0x01 ∷ 0x23 ∷ 0x04 ∷ 0x56 ∷ 0x07 ∷ 0x89 ∷ []);
+      paper =
+          0 ∷ 0 ∷ 1 ∷ 0 ∷ 0x12 ∷ 0x34 ∷ 0x56 ∷ 0x78 ∷ 0x90
+          ∷ 0x01 ∷ 0x23 ∷ 0x04 ∷ 0x56 ∷ 0x07 ∷ 0x89 ∷ [];
+    }
     ∷ record { letter = fig-k; found = imageWith (line 12 1) 0 0 (0xF123 ∷ []); paper = 0x12 ∷ 0x30 ∷ [] }
     ∷ record {
       letter = fig-k;
@@ -134,10 +148,17 @@ figures =
       paper = 0 ∷ 0 ∷ 1 ∷ 15 ∷ 0 ∷ 0 ∷ 0x59 ∷ 0x00 ∷ 5 ∷ [];
     }
     ∷ record {
+      letter = fig-m;
+      found = writeOver edge 0 1 2 1 (5 ∷ 9 ∷ []);
+      paper = 0 ∷ 0xFF ∷ 0xFF ∷ 0x59 ∷ 0x00 ∷ [];
+    }
+    ∷ record {
       letter = fig-n;
       found = maskOf (0 ∷ 0xFFFF_FFFF ∷ []);
       paper =
           0 ∷ 0x00 ∷ 0x00 ∷ 0x00 ∷ 0x12 ∷ 0x00 ∷ 0x04 ∷ 0x00 ∷ 0x00 ∷ 0x00 ∷ 0x00
           ∷ 0x00 ∷ 0x00 ∷ 0x00 ∷ 0x00 ∷ 0xFF ∷ 0xFF ∷ 0xFF ∷ 0xFF ∷ [];
     }
+    ∷ record { letter = no-letter; found = byCalls; paper = byHand }
+    ∷ record { letter = no-letter; found = byPlainFrame; paper = byHand }
     ∷ []

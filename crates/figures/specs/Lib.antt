@@ -1,2 +1,3 @@
 -- The figures of document 01.
+pub mod Instance
 pub mod Figures

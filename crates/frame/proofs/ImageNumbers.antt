@@ -15,17 +15,19 @@ use Rattle.bits.specs.Bits.{bitOf, bitAt}
 use Rattle.common.specs.Over.{over}
 use Rattle.grid.specs.declared.Grid.{Grid}
 use Rattle.common.specs.Tests.{every, pick}
-use Rattle.grid.specs.Sizes.{imageBytes, actualRows, actualColumns}
+use Rattle.grid.specs.Sizes.{sampleBytes, imageBytes, actualRows, actualColumns}
 use Rattle.grid.specs.Layout.{place, Block, Sample, SampleBit}
 use Rattle.common.proofs.Tests.{every-at, pick-yes, pick-no}
 use Rattle.common.proofs.Arith.{part-of}
 use Rattle.grid.proofs.Accepted.{rows-le, columns-le}
 use Rattle.grid.proofs.SamplePlaces.{inside}
-use Rattle.calls.specs.Writes.{dataAt, storeBlock}
-use Rattle.frame.specs.PlainFrame.{inBlock, written}
+use Rattle.calls.specs.Writes.{storeBlock}
+use Rattle.frame.specs.PlainFrame.{inBlock, written, numberInData}
 use Rattle.frame.proofs.ListBits.{bit-zero, bitAt-take, bitAt-left, zeros-in, drop-past}
 use Rattle.frame.proofs.Lengths.{length-zeros, length-storeBlock}
 use Rattle.frame.proofs.StoredBits.{store-hit, store-other, store-free, store-surplus}
+use Rattle.frame.proofs.Bounded.{Below, zeros-below, left-below, take-below, stored-below}
+use Rattle.frame.proofs.PlainBytes.{data-is}
 
 -- ---- the numbers after a write
 
@@ -59,11 +61,11 @@ in-no g row column row′ column′ b r c s ne =
 
 module _ (g : Grid) (row column : ℕ) (dat : List ℕ) (numbers : ℕ → ℕ → ℕ → ℕ) where
   pub written-same : (b r c : ℕ) → Sample g row column b r c
-      → written g row column dat numbers b (row * g .nppbv + r) (column * g .nppbh + c) ≡ dataAt g row column dat b r c
+      → written g row column dat numbers b (row * g .nppbv + r) (column * g .nppbh + c) ≡ numberInData g row column dat b r c
   unfolding written
   written-same b r c s =
       pick-yes _ _ (in-yes g row column b r c s)
-      ∙ ap₂ (dataAt g row column dat b) (add-sub-cancel-left (row * g .nppbv) r) (add-sub-cancel-left (column * g .nppbh) c)
+      ∙ ap₂ (numberInData g row column dat b) (add-sub-cancel-left (row * g .nppbv) r) (add-sub-cancel-left (column * g .nppbh) c)
 
   pub written-other : (row′ column′ b r c : ℕ) → Sample g row′ column′ b r c → (row′ ≡ row → column′ ≡ column → ⊥)
       → written g row column dat numbers b (row′ * g .nppbv + r) (column′ * g .nppbh + c) ≡ numbers b (row′ * g .nppbv + r) (column′ * g .nppbh + c)
@@ -71,7 +73,7 @@ module _ (g : Grid) (row column : ℕ) (dat : List ℕ) (numbers : ℕ → ℕ �
   written-other row′ column′ b r c s ne = pick-no _ _ (in-no g row column row′ column′ b r c s ne)
 
   written-small : ((b y x : ℕ) → numbers b y x < 2 ^ g .nbpp) → (b y x : ℕ) → written g row column dat numbers b y x < 2 ^ g .nbpp
-  unfolding written dataAt
+  unfolding written numberInData
   written-small h b y x = pick-lt (inBlock g row column b y x) _ _ (mod-lt _ (pow-pos (g .nbpp))) (h b y x)
     where
       pick-lt : (t : Bool) (u v : ℕ) → u < 2 ^ g .nbpp → v < 2 ^ g .nbpp → pick t u v < 2 ^ g .nbpp
@@ -85,6 +87,7 @@ pub record Holding (g : Grid) (image₀ image : List ℕ) (numbers : ℕ → ℕ
   pub size : length image ≡ length image₀
   pub surplus : drop (imageBytes g) image ≡ drop (imageBytes g) image₀
   pub small : (b y x : ℕ) → numbers b y x < 2 ^ g .nbpp
+  pub bytes : Below 8 (imageBytes g) image
   pub sample-bits : (row column b r c i : ℕ) → SampleBit g row column b r c i
       → bitAt image (place g row column b r c + i) ≡ bitOf (numbers b (row * g .nppbv + r) (column * g .nppbh + c)) (g .nbpp - suc i)
   pub other-bits : (p : ℕ) → p < imageBytes g * 8 → ((row column b r c i : ℕ) → SampleBit g row column b r c i → place g row column b r c + i ≡ p → ⊥)
@@ -99,13 +102,15 @@ image-started g image h =
       surplus = drop-past (imageBytes g) image 0 (replicate (imageBytes g) 0)
           (omega (arith, length-replicate {A = ℕ} (imageBytes g) 0)) (omega (arith, length-replicate {A = ℕ} (imageBytes g) 0));
       small = λ b y x. pow-pos (g .nbpp);
+      bytes = zeros-below 8 (imageBytes g) image 0 (imageBytes g) (omega arith) (λ i l d. absurd (omega (arith, d (omega arith))));
       sample-bits = λ row column b r c i bit. z _ (inside g row column b r c i bit) ∙ sym (bit-zero (g .nbpp - suc i));
       other-bits = λ p l none. z p l;
     }
 
 -- a store in the first n bytes, which came back in front of the rest
 module _ (g : Grid) (image₀ image : List ℕ) (numbers : ℕ → ℕ → ℕ → ℕ) (held : Holding g image₀ image numbers) (pos : 0 < g .nbpp)
-    (n row column : ℕ) (dat : List ℕ) (fits : imageBytes g ≤ length (take n image)) (t : Block g row column) where
+    (n row column : ℕ) (dat : List ℕ) (fits : imageBytes g ≤ length (take n image)) (t : Block g row column)
+    (exact : length dat ≡ g .bands * actualRows g row * actualColumns g column * sampleBytes g) where
   abbrev stored : List ℕ
   stored = storeBlock g row column dat (take n image)
 
@@ -129,7 +134,8 @@ module _ (g : Grid) (image₀ image : List ℕ) (numbers : ℕ → ℕ → ℕ �
       same : SampleBit g row column b r c i → Agrees row column
       same bit′ =
           store-hit g row column dat (take n image) fits b r c i bit′
-          ∙ ap (λ (v : ℕ). bitOf v (g .nbpp - suc i)) (sym (written-same g row column dat numbers b r c (bit′ .sample)))
+          ∙ ap (λ (v : ℕ). bitOf v (g .nbpp - suc i))
+          (sym (written-same g row column dat numbers b r c (bit′ .sample) ∙ data-is g row column dat exact b r c (bit′ .sample)))
 
       other : (row′ ≡ row → column′ ≡ column → ⊥) → Agrees row′ column′
       other ne =
@@ -151,6 +157,9 @@ module _ (g : Grid) (image₀ image : List ℕ) (numbers : ℕ → ℕ → ℕ �
             ∙ sym (drop-append-le (imageBytes g) (take n image) (drop n image) fits)
             ∙ ap (drop (imageBytes g)) (take-append-drop n image) ∙ held .surplus;
         small = written-small g row column dat numbers (held .small);
+        bytes = left-below 8 (imageBytes g) stored (drop n image) (omega (arith, stored-size))
+            (stored-below g row column t dat (take n image) fits
+            (take-below 8 (imageBytes g) n image (omega (arith, length-take n image)) (held .bytes)));
         sample-bits = write-sample;
         other-bits = λ p h none. front p 0 h
             (store-free g row column t dat (take n image) fits p (λ b r c i bit e. none row column b r c i bit (sym e))

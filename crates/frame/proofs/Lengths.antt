@@ -73,20 +73,3 @@ length-storeBlock g row column dat image t h = length-storeBy (byteMultiple g) g
 
 pub length-zeros : (xs : List ℕ) (n : ℕ) → n ≤ length xs → length (over xs 0 (replicate n 0)) ≡ length xs
 length-zeros xs n h = length-over xs 0 (replicate n 0) (omega (arith, length-replicate {A = ℕ} n 0))
-
--- whether or not the start is accepted
-module _ (g : Grid) (image marks : List ℕ) where
-  started : (n : ℕ) → (n ≡ 0 → Enough g (length image) (length marks))
-      → let l = outcome n (frameOut (number 0) (over image 0 (replicate (imageBytes g) 0)) (over marks 0 (replicate (markWords (blocks g)) 0))) (unchanged image marks) in
-      (length (l .image) ≡ length image) × (length (l .marks) ≡ length marks)
-  unfolding outcome
-  started zero f = let a = f refl in (length-zeros image (imageBytes g) (a .bytes), length-zeros marks (markWords (blocks g)) (a .words))
-  started (suc n) f = (refl, refl)
-
-  pub length-start-image : length (start g image marks .image) ≡ length image
-  unfolding start
-  length-start-image = started _ (start-facts g (length image) (length marks)) .0
-
-  pub length-start-marks : length (start g image marks .marks) ≡ length marks
-  unfolding start
-  length-start-marks = started _ (start-facts g (length image) (length marks)) .1

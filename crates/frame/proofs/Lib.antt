@@ -2,8 +2,15 @@
 pub mod ListBits
 pub mod Lengths
 pub mod StoredBits
+pub mod Bounded
+pub mod PlainBytes
+pub mod PlainBlocks
 pub mod ImageNumbers
 pub mod MarksReached
 pub mod ListOfCalls
 pub mod WindowNumbers
 pub mod Demand3Holds
+pub mod DeterminedHolds
+pub mod LastAccepted
+pub mod Unreached
+pub mod OwnWordsHold

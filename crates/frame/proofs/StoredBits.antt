@@ -36,7 +36,7 @@ sample-end g row column b r c h s =
 
 module _ (g : Grid) (row column : ℕ) (t : Block g row column) (dat image : List ℕ) (fits : imageBytes g ≤ length image) where
   -- what every put keeps, and where runs are cleared every clearing of one
-  store-keep : (Q : List ℕ → Type 0)
+  pub store-keep : (Q : List ℕ → Type 0)
       → ((b r c : ℕ) → Sample g row column b r c → (y : List ℕ) → Q y → Q (putBits y (place g row column b r c) (g .nbpp) (dataAt g row column dat b r c)))
       → ((k : ℕ) → k < g .bands → (y : List ℕ) → imageBytes g ≤ length y → Q y → Q (over y (runByte (g .imode) g (blockIndex g row column) k) (replicate (bandBytes g) 0)))
       → (w : Bool) → Q image → Q (storeBy w g row column dat image)

@@ -8,7 +8,7 @@ use native.Mathlib.Omega.{arith}
 use native.Mathlib.Nat.{div-add-mod', mod-eq-of-lt}
 use lib.Dec.{leb, ltb, lit<}
 use lib.ListN.{length, getD, take, length-take}
-use lib.Seq.{take-at, take-length}
+use lib.Seq.{take-at}
 use Rattle.bits.specs.Bits.{bitOf}
 use Rattle.common.specs.Questions.{outcome}
 use Rattle.common.specs.Over.{over}
@@ -25,7 +25,8 @@ use Rattle.grid.proofs.Accepted.{Facts, facts, grid-inv, grid-yes}
 use Rattle.grid.proofs.SamplePlaces.{ends}
 use Rattle.layout.specs.Bands.{Bands, bandCount, bandAt, q8, q9}
 use Rattle.calls.specs.Orders.{Window, q7Window, q10, windowNumber}
-use Rattle.calls.specs.Reads.{Filled, sampleAt, pictureAt, bytesOf, filled, windowOf, window}
+use Rattle.calls.specs.Answers.{Filled}
+use Rattle.calls.specs.Reads.{sampleAt, pictureAt, bytesOf, filled, windowOf, window}
 use Rattle.frame.specs.Demand3.{SamePicture, Alike}
 use Rattle.frame.proofs.ListBits.{bitAt-take}
 use Rattle.frame.proofs.ImageNumbers.{Holding}
@@ -92,11 +93,16 @@ module _ (g : Grid) (f : Facts g) (image₀ image : List ℕ) (numbers : ℕ →
       bytesOf-ext _ _ _ _ _ _ (q .picture .rows-pos) (q .picture .columns-pos) (λ k r c hk hr hc.
       picture-is _ _ _ (q .band k hk) (omega (arith, q .picture .rows-end)) (omega (arith, q .picture .columns-end)) (q .end r c hr hc)))
 
-pub window-whole : (g : Grid) → Facts g → (image₀ image : List ℕ) (numbers : ℕ → ℕ → ℕ → ℕ) → Holding g image₀ image numbers
-    → (w : Window) (out : List ℕ) → window g image w out ≡ windowOf g numbers (length image) w out
-window-whole g f image₀ image numbers held w out =
-    subst (λ (x : List ℕ). window g x w out ≡ windowOf g numbers (length x) w out) (take-length image)
-    (window-is g f image₀ image numbers held (length image) w out)
+-- the same numbers in the picture give the same window
+pub numbers-ext : (g : Grid) → Accepted g → (numbers numbers′ : ℕ → ℕ → ℕ → ℕ)
+    → ((b y x : ℕ) → b < g .bands → y < g .nrows → x < g .ncols → numbers b y x ≡ numbers′ b y x)
+    → (n : ℕ) (w : Window) (out : List ℕ) → windowOf g numbers n w out ≡ windowOf g numbers′ n w out
+unfolding windowOf
+numbers-ext g a numbers numbers′ same n w out =
+    filled-ext _ _ _ _ _ _ _ out (λ e.
+    let q = window-facts g (facts g a) n w _ e in
+    bytesOf-ext _ _ _ _ _ _ (q .picture .rows-pos) (q .picture .columns-pos) (λ k r c hk hr hc.
+    same _ _ _ (q .band k hk) (omega (arith, q .picture .rows-end)) (omega (arith, q .picture .columns-end))))
 
 -- ---- two images
 

@@ -1,20 +1,15 @@
--- A list of calls, each on the image and marks that the one before it left.
+-- A start and a list of calls after it, each on the image and marks that the one before it left.
 -- Assumes nothing.
 use Prim.Native.Nat.{ℕ}
+use mathlib.Core.Path.{_≡_}
 use mathlib.Core.List.{List, [], _∷_, _++_}
-use lib.ListN.{take, drop}
+use lib.ListN.{length, take, drop}
 use Rattle.grid.specs.declared.Grid.{Grid}
 use Rattle.calls.specs.declared.Answer.{Answer}
-use Rattle.calls.specs.Writes.{FrameOut, frameOut}
+use Rattle.calls.specs.Answers.{FrameOut}
+use Rattle.calls.specs.Orders.{startNumber}
 use Rattle.calls.specs.Writes as W
-
--- a call with its arguments. Each lends the first n bytes of the image and the first m mark words, or all where there
--- are fewer
-pub data Call : Type 0 where
-  write : (n m row column bands rows columns : ℕ) → List ℕ → Call
-  skip : (n m row column : ℕ) → Call
-  progress : (m : ℕ) → Call
-  finish : (n m : ℕ) → Call
+use Rattle.frame.specs.Call.{Call, write, skip, progress, finish}
 
 -- what the calls act on: the grid in force, the image and the marks
 pub record State : Type 0 where
@@ -52,7 +47,28 @@ callAll (c ∷ cs) s =
     let r : Called = callAll cs (o .state) in
     record { answers = o .answer ∷ r .answers; state = r .state }
 
--- the state that an accepted start leaves
-unfoldable pub started : Grid → List ℕ → List ℕ → State
-started g image marks =
-    record { grid = g; image = W.start g image marks .image; marks = W.start g image marks .marks }
+-- what start is called with: it too is lent the first n bytes of an image and the first m mark words
+pub record Start : Type 0 where
+  pub n : ℕ
+  pub m : ℕ
+  pub grid : Grid
+  pub image : List ℕ
+  pub marks : List ℕ
+
+-- the start is accepted
+abbrev pub Accepts : Start → Type 0
+Accepts s = startNumber (s .grid) (length (take (s .n) (s .image))) (length (take (s .m) (s .marks))) ≡ 0
+
+-- the state that the start leaves
+unfoldable pub started : Start → State
+started s =
+    putBack (s .n) (s .m) (record { grid = s .grid; image = s .image; marks = s .marks })
+    (W.start (s .grid) (take (s .n) (s .image)) (take (s .m) (s .marks))) .state
+
+-- the calls after the start
+abbrev pub after : Start → List Call → Called
+after s cs = callAll cs (started s)
+
+-- the grid in force after them
+abbrev pub inForce : Start → List Call → Grid
+inForce s cs = after s cs .state .grid

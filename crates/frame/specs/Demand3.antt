@@ -1,6 +1,6 @@
 -- Demand 3 as one statement about a whole list of calls after an accepted start.
 -- Assumes nothing.
-use Prim.Native.Nat.{ℕ, suc, _+_, _-_, _*_, _<_}
+use Prim.Native.Nat.{ℕ, suc, _+_, _-_, _*_, _≤_, _<_}
 use mathlib.Core.Path.{_≡_}
 use mathlib.Core.List.{List}
 use lib.ListN.{length, take, drop}
@@ -10,17 +10,16 @@ use Rattle.grid.specs.Sizes.{sampleBytes, blocks, imageBytes, blockIndex}
 use Rattle.grid.specs.Layout.{place, Block, SampleBit}
 use Rattle.marks.specs.Marks.{markWords, marked}
 use Rattle.layout.specs.Bands.{bandCount}
-use Rattle.calls.specs.Orders.{Window, startNumber}
-use Rattle.calls.specs.Reads.{Filled, window}
-use Rattle.frame.specs.Calls.{Call, Called, callAll, started}
+use Rattle.calls.specs.Answers.{Filled}
+use Rattle.calls.specs.Orders.{Window}
+use Rattle.calls.specs.Reads.{window}
+use Rattle.frame.specs.Call.{Call}
+use Rattle.frame.specs.Calls.{State, Start, Accepts, after, inForce}
 use Rattle.frame.specs.PlainFrame.{Frame, FrameCalled, frame0, frameCallAll, frameWindow}
 
--- the calls after the start, and the plain frame that is fed the same
-abbrev pub after : Grid → List ℕ → List ℕ → List Call → Called
-after g image marks cs = callAll cs (started g image marks)
-
-abbrev pub plain : Grid → List ℕ → List ℕ → List Call → FrameCalled
-plain g image marks cs = frameCallAll cs (frame0 g (length image) (length marks))
+-- the plain frame that is fed the same: the starting grid, the buffers' lengths and the calls
+abbrev pub plain : Start → List Call → FrameCalled
+plain s cs = frameCallAll cs (frame0 (s .grid) (length (s .image)) (length (s .marks)))
 
 -- two grids with the same rows, columns, bands and NBPP, under whatever modes and block sizes
 pub record SamePicture (g h : Grid) : Type 0 where
@@ -38,47 +37,54 @@ pub record Alike (n : ℕ) (a b : Filled) : Type 0 where
   pub shape : a .shape ≡ b .shape
   pub bytes : a .shape .number ≡ 0 → take n (a .out) ≡ take n (b .out)
 
--- what holds after a list of calls
-pub record Holds (g : Grid) (image marks : List ℕ) (cs : List Call) : Type 0 where
-  -- each call answers as the plain frame does
-  pub answers : after g image marks cs .answers ≡ plain g image marks cs .answers
-  -- a block's mark is one exactly when the block is reached
-  pub marked-reached : (row column : ℕ) → Block g row column
-      → marked (after g image marks cs .state .marks) (blockIndex g row column)
-      ≡ plain g image marks cs .frame .reached (blockIndex g row column)
-  -- a window on the starting grid and on the image, or on its first n bytes, is refused as the plain frame refuses it,
-  -- and an accepted one gives the plain frame's numbers
-  pub windows : (n : ℕ) (w : Window) (out : List ℕ)
-      → window g (take n (after g image marks cs .state .image)) w out
-      ≡ frameWindow (plain g image marks cs .frame) n w out
-  -- the layout puts each bit of an actual sample inside the image's bytes, where it is that bit of the plain frame's
-  -- number
+-- an image as a plain frame has it, where the grid's layout puts samples
+pub record HoldsNumbers (g : Grid) (image : List ℕ) (f : Frame) : Type 0 where
+  -- each bit of an actual sample lies inside the image's bytes and is that bit of the plain frame's number
   pub inside : (row column b r c i : ℕ) → SampleBit g row column b r c i
       → place g row column b r c + i < imageBytes g * 8
   pub sample-bits : (row column b r c i : ℕ) → SampleBit g row column b r c i
-      → bitAt (after g image marks cs .state .image) (place g row column b r c + i)
-      ≡ bitOf (plain g image marks cs .frame .numbers b (row * g .nppbv + r) (column * g .nppbh + c)) (g .nbpp - suc i)
+      → bitAt image (place g row column b r c + i)
+      ≡ bitOf (f .numbers b (row * g .nppbv + r) (column * g .nppbh + c)) (g .nbpp - suc i)
   -- each bit of the image that holds no sample is zero
   pub other-bits : (p : ℕ) → p < imageBytes g * 8
       → ((row column b r c i : ℕ) → SampleBit g row column b r c i → place g row column b r c + i ≡ p → ⊥)
-      → bitAt (after g image marks cs .state .image) p ≡ 0
-  -- the surplus of longer buffers is kept
-  pub image-length : length (after g image marks cs .state .image) ≡ length image
-  pub image-surplus : drop (imageBytes g) (after g image marks cs .state .image) ≡ drop (imageBytes g) image
-  pub marks-length : length (after g image marks cs .state .marks) ≡ length marks
-  pub marks-surplus : drop (markWords (blocks g)) (after g image marks cs .state .marks)
-      ≡ drop (markWords (blocks g)) marks
-  -- two images from such lists with the same picture and sample values give the same answer and bytes to any window
-  -- asked alike of both
-  pub alike : (h : Grid) (image′ marks′ : List ℕ) (cs′ : List Call) → startNumber h (length image′) (length marks′) ≡ 0
-      → SamePicture g h → SameNumbers g (plain g image marks cs .frame) (plain h image′ marks′ cs′ .frame)
-      → (w : Window) (out out′ : List ℕ) → length out ≡ length out′
-      → Alike (bandCount (g .bands) (w .bands) * w .rows * w .columns * sampleBytes g)
-      (window g (after g image marks cs .state .image) w out)
-      (window h (after h image′ marks′ cs′ .state .image) w out′)
+      → bitAt image p ≡ 0
 
--- for every grid, buffers and list of calls after an accepted start
+-- the surplus of longer buffers is kept
+pub record KeepsSurplus (g : Grid) (s : Start) (now : State) : Type 0 where
+  pub image-length : length (now .image) ≡ length (s .image)
+  pub image-surplus : drop (imageBytes g) (now .image) ≡ drop (imageBytes g) (s .image)
+  pub marks-length : length (now .marks) ≡ length (s .marks)
+  pub marks-surplus : drop (markWords (blocks g)) (now .marks) ≡ drop (markWords (blocks g)) (s .marks)
+
+-- what holds after a list of calls. Windows, places and sizes are those of the grid in force
+pub record Holds (s : Start) (cs : List Call) : Type 0 where
+  -- each call answers as the plain frame does
+  pub answers : after s cs .answers ≡ plain s cs .answers
+  -- the grid in force is the starting grid, and the plain frame's
+  pub grid : inForce s cs ≡ s .grid
+  pub frame-grid : plain s cs .frame .grid ≡ inForce s cs
+  -- a block's mark is one exactly when the block is reached
+  pub marked-reached : (row column : ℕ) → Block (inForce s cs) row column
+      → marked (after s cs .state .marks) (blockIndex (inForce s cs) row column)
+      ≡ plain s cs .frame .reached row column
+  -- a window on the image, or on its first n bytes, is refused as the plain frame refuses it, and an accepted one gives
+  -- the plain frame's numbers
+  pub windows : (n : ℕ) (w : Window) (out : List ℕ)
+      → window (inForce s cs) (take n (after s cs .state .image)) w out ≡ frameWindow (plain s cs .frame) n w out
+  pub numbers : HoldsNumbers (inForce s cs) (after s cs .state .image) (plain s cs .frame)
+  pub surplus : KeepsSurplus (inForce s cs) s (after s cs .state)
+  -- two images from such lists with the same picture and sample values give the same answer and bytes to any window
+  -- asked alike of both, each with any part of its buffer's surplus
+  pub alike : (t : Start) (cs′ : List Call) → Accepts t
+      → SamePicture (inForce s cs) (inForce t cs′)
+      → SameNumbers (inForce s cs) (plain s cs .frame) (plain t cs′ .frame)
+      → (n n′ : ℕ) → imageBytes (inForce s cs) ≤ n → imageBytes (inForce t cs′) ≤ n′
+      → (w : Window) (out out′ : List ℕ) → length out ≡ length out′
+      → Alike (bandCount (inForce s cs .bands) (w .bands) * w .rows * w .columns * sampleBytes (inForce s cs))
+      (window (inForce s cs) (take n (after s cs .state .image)) w out)
+      (window (inForce t cs′) (take n′ (after t cs′ .state .image)) w out′)
+
+-- for every accepted start and list of calls
 abbrev pub Demand3 : Type 0
-Demand3 =
-    (g : Grid) (image marks : List ℕ) (cs : List Call) → startNumber g (length image) (length marks) ≡ 0
-    → Holds g image marks cs
+Demand3 = (s : Start) (cs : List Call) → Accepts s → Holds s cs

@@ -1,2 +1,3 @@
 pub mod Method
+pub mod OnBlock
 pub mod Walks

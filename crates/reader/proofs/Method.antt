@@ -1,6 +1,6 @@
 -- A method of the reader that calls a function on the reader's parts: on its image, its grid and the method's further parameters.
 --     reader-typed, image-typed, grid-typed    machine values are of their types
---     Method, Parts    the two signatures
+--     Method, Parts    the two signatures.        y′       what the function is passed
 --     passes-on        the rule of that call. What the method owns at entry is what the call asks; what the call ensures is what the method ensures, where the two clauses say the same
 -- Assumes nothing.
 use mathlib.Core.Path.{_≡_}
@@ -85,7 +85,7 @@ module _ (m : ℕ) (os : List (Outlives (suc m))) (ps : List (Slot (suc m))) (R 
     abbrev a′ : Args (Parts .signature) κs
     a′ = (d .image, (d .grid, xs))
 
-    abbrev y′ : Stated 𝓤 H 𝓜 𝓖 𝓡 Parts c′ .Ghost
+    abbrev pub y′ : Stated 𝓤 H 𝓜 𝓖 𝓡 Parts c′ .Ghost
     y′ = ((κs, qs, bounds, a′, (slice-vals (d .image), (LL.vals G.the-type G′.the-laws (d .grid), vss))), g′)
 
     asked : ent 𝓤 (emp 𝓤) (c′ κs a′ .requires g′) → ent 𝓤 (onEntry 𝓤 H (𝓖 .A) (Method .signature) κs qs (y .0 .3) (y .0 .4)) (Stated 𝓤 H 𝓜 𝓖 𝓡 Parts c′ .pre y′)

@@ -3,10 +3,13 @@
 // stands over, 1 to 4 about the grid first, so a reader of a refused grid refuses every read. `check` tells the grid's
 // number.
 ghost use mathlib.Core.Path.{_≡_};
-ghost use Rattle.calls.specs.Orders.{rectangle};
+ghost use Prim.Native.Nat.{_+_};
+ghost use denote.Ref.{ptr};
+ghost use lib.ListN.{length};
+ghost use Rattle.calls.specs.Orders.{rectangle, wholeNumber};
 ghost use Rattle.grid.specs.Check.{gridNumber};
 ghost use Rattle.layout.specs.Bands.{bandsOf};
-ghost use Rattle.calls.specs.Reads.{blockRead, wholeBlock, window, filledWith};
+ghost use Rattle.calls.specs.Reads.{blockRead, wholeBlock, wholeAt, window, filledWith};
 use calls::Shape;
 use grid::Grid;
 
@@ -83,9 +86,20 @@ impl<'a> Reader<'a> {
         )
     }
 
-    // The bytes of the whole nominal block, as a part of the image.
+    // The number of `whole_block` on the same inputs.
+    pub fn whole_number(self, block_row: u32, block_col: u32) -> u32
+        ensures { λ r. ⌜ r
+            ≡ wholeNumber (self .entry .grid) (length (now (self .entry .image))) «block_row» «block_col» ⌝ }
+    {
+        reading::whole::whole_number(self.image, self.grid, block_row, block_col)
+    }
+
+    // The bytes of the whole nominal block: that part of the image itself, and no copy of it.
     pub fn whole_block(self, block_row: u32, block_col: u32) -> &'a [u8]
         ensures { λ r. ⌜ now r ≡ wholeBlock (self .entry .grid) (now (self .entry .image)) «block_row» «block_col» ⌝ }
+        ensures { λ r. ⌜ (ptr r .0 ≡ ptr (self .entry .image) .0)
+            × (ptr r .1 ≡ ptr (self .entry .image) .1
+            + wholeAt (self .entry .grid) (length (now (self .entry .image))) «block_row» «block_col») ⌝ }
     {
         reading::whole::whole_block(self.image, self.grid, block_row, block_col)
     }

@@ -1,7 +1,7 @@
 -- `reading::whole::whole_block` meets its contract: the block's nominal bytes, or none.
 -- Assumes nothing.
 use borrow.Author.Needs.{needs}
-use mathlib.Core.Path.{_≡_, sym, _∙_}
+use mathlib.Core.Path.{_≡_, refl, sym, ap, _∙_}
 use mathlib.Core.List.{List, []}
 use Prim.Native.Nat.{ℕ, _+_, _-_}
 use native.Mathlib.Omega.{arith}
@@ -11,7 +11,7 @@ use Rattle.common.proofs.Questions.{outcome-yes, refused-by}
 use Rattle.grid.specs.Layout.{wholeStart, wholeLength}
 use Rattle.grid.proofs.Accepted.{facts}
 use Rattle.grid.proofs.BlockLayouts.{whole-in}
-use Rattle.calls.specs.Reads.{wholeBlock}
+use Rattle.calls.specs.Reads.{wholeBlock, wholeAt}
 use Rattle.reading.proofs.BlockNumbers.{Whole, whole-facts}
 use Rattle.reading.proofs.whole.whole_block.Statement.{statement}
 use Rattle.reading.proofs.whole.whole_block.Tie as tie
@@ -22,6 +22,10 @@ known c = whole-facts _ _ _ _ (sym (c .before .whole-number .ensures) ∙ c .if1
 -- a part told by its start and its length
 part-is : (xs : List ℕ) (start size : ℕ) → take (start + size - start) (drop start xs) ≡ take size (drop start xs)
 part-is xs start size = let e : start + size - start ≡ size = omega arith in rw e
+
+-- where a part lies: its start, after the first byte of the image
+from-start : (first start at : ℕ) → start ≡ at → start + first ≡ first + at
+from-start first start at e = omega arith
 
 whole-number-requires : tie.Need-whole-number-requires
 whole-number-requires c κs = search needs
@@ -36,8 +40,13 @@ part-result-end : tie.Need-part-result-end
 part-result-end c = search needs
 
 returns : tie.Need-returns
-unfolding wholeBlock
-returns c = refused-by _ (λ n. []) (c .before .before .whole-number .ensures) (c .before .if1 .taken)
+unfolding wholeBlock wholeAt
+returns c =
+    let number = c .before .before .whole-number .ensures in
+    let refused = c .before .if1 .taken in (
+      refused-by _ (λ n. []) number refused,
+      (refl, from-start _ _ _ (refused-by _ (λ n. 0) number refused)),
+    )
 
 whole-block-requires : tie.Need-whole-block-requires
 whole-block-requires c κs = let t = known c in (t .accepted, t .block)
@@ -57,13 +66,17 @@ part-result-end-2 : tie.Need-part-result-end-2
 part-result-end-2 c = rw (c .before .whole-block .ensures) (known (c .before .before) .reached)
 
 returns-2 : tie.Need-returns-2
-unfolding wholeBlock
+unfolding wholeBlock wholeAt
 returns-2 c =
     let w = c .before .before in
     let h = w .before in
     let a = h .before .before .before .args in
-    rw (w .whole-block .ensures)
-    (part-is (now (a .image)) (wholeStart (a .grid) (a .block-row) (a .block-col)) (wholeLength (a .grid)) ∙ sym (outcome-yes _ (λ n. []) (sym (h .before .whole-number .ensures) ∙ h .if1 .left)))
+    let start : ℕ = wholeStart (a .grid) (a .block-row) (a .block-col) in
+    let accepted = sym (h .before .whole-number .ensures) ∙ h .if1 .left in
+    rw (w .whole-block .ensures) (
+      part-is (now (a .image)) start (wholeLength (a .grid)) ∙ sym (outcome-yes _ (λ n. []) accepted),
+      (refl, from-start _ _ _ (sym (outcome-yes start (λ n. 0) accepted))),
+    )
 
 pub whole-block-spec : {M : Type 1} → statement M
 whole-block-spec =
