@@ -4,8 +4,8 @@ ghost use mathlib.Core.Path.{_≡_};
 ghost use mathlib.Core.Bool.{true, false};
 ghost use Prim.Native.Nat.{_+_, _*_, _%_, _^_, _≤_, _<_};
 ghost use Rattle.layout.specs.Internal.Layout.{Sound};
-ghost use Rattle.moves.specs.Internal.Orders.{cutInto, partOf, nextPart, orderOf, pieceCount, pieceOf};
-ghost use Rattle.moves.specs.Internal.Orders.{nextPiece, RightCuts, PieceIn, Chosen};
+ghost use Rattle.moves.specs.Internal.Orders.{cutInto, partOf, nextPart, orderOf, areaCount, areaOf};
+ghost use Rattle.moves.specs.Internal.Orders.{nextArea, AreaIn, pieceOf, Chosen};
 use common::min;
 use common::pick;
 use layout::BlockLayout;
@@ -47,6 +47,12 @@ pub struct Span {
     pub count: usize,
 }
 
+// Some rows and columns of a part.
+pub struct Area {
+    pub rows: Span,
+    pub columns: Span,
+}
+
 // Some bands, rows and columns of a part; bands are counted as they are asked for.
 pub struct Piece {
     pub bands: Span,
@@ -54,7 +60,7 @@ pub struct Piece {
     pub columns: Span,
 }
 
-// All bands, rows and columns of a part, in pieces: rows outermost, bands innermost.
+// All bands, rows and columns of a part, in pieces: area after area, rows outermost, and in each the bands.
 pub struct Order {
     pub way: Way,
     pub bands: Cut,
@@ -101,56 +107,52 @@ impl Cut {
 }
 
 impl Order {
-    pub fn pieces(self) -> usize
-        requires { ⌜ (self .rows .parts * self .columns .parts < 2 ^ 64) × (pieceCount self < 2 ^ 64) ⌝ }
-        ensures { λ n. ⌜ n ≡ pieceCount self ⌝ }
+    pub fn areas(self) -> usize
+        requires { ⌜ areaCount self < 2 ^ 64 ⌝ }
+        ensures { λ n. ⌜ n ≡ areaCount self ⌝ }
     {
-        self.rows.parts * self.columns.parts * self.bands.parts
+        self.rows.parts * self.columns.parts
     }
 
-    // Piece k.
-    pub fn piece(self, k: usize) -> Piece
-        requires { ⌜ RightCuts self ⌝ }
-        requires { ⌜ k < pieceCount self ⌝ }
-        ensures { λ p. ⌜ p ≡ pieceOf self k ⌝ }
+    pub fn first_area(self) -> Area
+        requires { ⌜ (0 < self .rows .length) × (0 < self .columns .length) ⌝ }
+        ensures { λ a. ⌜ a ≡ areaOf self 0 ⌝ }
     {
-        let bands = self.bands;
         let rows = self.rows;
         let columns = self.columns;
-        let rest = k / bands.parts;
-        Piece {
-            bands: bands.part(k % bands.parts),
-            rows: rows.part(rest / columns.parts),
-            columns: columns.part(rest % columns.parts),
+        Area {
+            rows: rows.part(0),
+            columns: columns.part(0),
         }
     }
 
-    // The piece after a piece.
-    pub fn next(self, piece: Piece) -> Piece
-        requires { ⌜ PieceIn (self .bands .length) (self .rows .length) (self .columns .length) piece ⌝ }
-        ensures { λ p. ⌜ p ≡ nextPiece self piece ⌝ }
+    // The area after an area.
+    pub fn next_area(self, area: Area) -> Area
+        requires { ⌜ AreaIn (self .rows .length) (self .columns .length) area ⌝ }
+        ensures { λ a. ⌜ a ≡ nextArea self area ⌝ }
     {
-        let bands = self.bands.next(piece.bands);
-        let rows = piece.rows;
-        let columns = piece.columns;
-        if bands.from > 0 {
-            return Piece {
-                bands,
-                rows,
-                columns,
-            };
-        }
-        let columns = self.columns.next(columns);
+        let rows = area.rows;
+        let columns = self.columns.next(area.columns);
         if columns.from > 0 {
-            return Piece {
-                bands,
-                rows,
-                columns,
-            };
+            return Area { rows, columns };
         }
-        Piece {
-            bands,
+        Area {
             rows: self.rows.next(rows),
+            columns,
+        }
+    }
+
+    // Part p of the bands, of an area.
+    pub fn piece(self, area: Area, p: usize) -> Piece
+        requires { ⌜ p * self .bands .most < self .bands .length ⌝ }
+        ensures { λ q. ⌜ q ≡ pieceOf self area p ⌝ }
+    {
+        let bands = self.bands;
+        let rows = area.rows;
+        let columns = area.columns;
+        Piece {
+            bands: bands.part(p),
+            rows,
             columns,
         }
     }
@@ -218,8 +220,9 @@ fn columns_together(by: Strides, width: usize, columns: usize) -> usize
     PIECE / by.column
 }
 
-// How many rows of a band are moved together: all where they lie together, else those of a piece; some where the
-// rows of many bands alternate, so that each band is touched in longer runs.
+// How many rows of a band are moved together: all where they lie together; one, as the image lies, where the rows of
+// few bands alternate, and some where those of many do, so that each band is touched in longer runs; else those of a
+// piece.
 fn rows_together(by: Strides, width: usize, bands: usize, rows: usize) -> usize
     requires { ⌜ 0 < rows ⌝ }
     ensures { λ n. ⌜ 0 < n ⌝ }
@@ -230,11 +233,14 @@ fn rows_together(by: Strides, width: usize, bands: usize, rows: usize) -> usize
     if by.row <= by.band {
         return rows;
     }
+    if by.column == width {
+        if bands > FEW_BANDS {
+            return ROWS_AT_ONCE;
+        }
+        return 1;
+    }
     if by.row < PIECE {
         return PIECE / by.row;
-    }
-    if bands > FEW_BANDS && by.column == width {
-        return ROWS_AT_ONCE;
     }
     1
 }

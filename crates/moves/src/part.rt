@@ -1,13 +1,17 @@
 // A part of a block, read into an answer of several rows and columns a band.
 ghost use mathlib.Core.Path.{_≡_};
-ghost use mathlib.Core.Bool.{false};
+ghost use mathlib.Core.Bool.{true, false};
 ghost use lib.ListN.{length};
 ghost use Rattle.common.specs.Over.{over};
 ghost use Rattle.layout.specs.Bands.{bandsOf, bandCount};
 ghost use Rattle.moves.specs.Internal.Parts.{Readable, partRead, SomeRead, PlanesReadable, planesOf, wholePart};
 ghost use Rattle.moves.specs.Internal.Spacings.{sidesOf};
-ghost use Rattle.moves.specs.Internal.Orders.{PieceIn, InPiece, WayFits, Listed};
-use crate::order::Piece;
+ghost use Rattle.layout.specs.Internal.Spacing.{hasStrides};
+ghost use Rattle.moves.specs.declared.order.Way.the-variants.{Pixels};
+ghost use Rattle.moves.specs.Internal.Orders.{AreaIn, InArea, bandOf, bandsOfArea, PieceIn, InPiece};
+ghost use Rattle.moves.specs.Internal.Orders.{WayFits, ListedOrder, AreaMoves};
+use crate::order::Area;
+use crate::order::Order;
 use crate::order::Way;
 use crate::order::choose;
 use crate::order::listed_together;
@@ -45,73 +49,191 @@ pub fn whole_part(rows: usize, columns: usize) -> Part
     }
 }
 
-// The samples of a piece of a part go to their places in `out`.
-fn read_piece(
+// The rows of an area of a part, of one of the bands asked for, go to their places in `out`. The samples of a row stand
+// evenly.
+fn read_band(
     src: &[u8],
     layout: BlockLayout,
     sides: Sides,
     all: bool,
     bands: &[u32],
-    way: Way,
-    piece: Piece,
+    area: Area,
+    k: usize,
     out: &mut [u8],
 )
     requires { ⌜ sides ≡ sidesOf layout (sides .part) (sides .rows) (sides .columns) ⌝ }
     requires { ⌜ Readable layout (length (now src)) (sides .part) (bandsOf all (now bands)) (sides .rows)
         (sides .columns) (length (now out)) ⌝ }
     requires { ⌜ PieceIn (bandCount (layout .bands) (bandsOf all (now bands))) (sides .part .rows)
-        (sides .part .columns) piece ⌝ }
-    requires { ⌜ WayFits way layout (piece .bands .count) (piece .rows .count) ⌝ }
-    requires { ⌜ Listed way all (bandCount (layout .bands) (bandsOf all (now bands))) (piece .bands) ⌝ }
+        (sides .part .columns) (bandOf area k) ⌝ }
+    requires { ⌜ hasStrides layout ≡ true ⌝ }
     ensures { λ _. ⌜ SomeRead layout (now (src .entry)) (sides .part) (bandsOf all (now (bands .entry)))
-        (sides .rows) (sides .columns) (InPiece piece) (now (out .entry)) (now (out .exit)) ⌝ }
+        (sides .rows) (sides .columns) (InPiece (bandOf area k)) (now (out .entry)) (now (out .exit)) ⌝ }
 {
     let image = sides.image;
     let planes = sides.planes;
-    let first = piece.bands.from;
-    let row = piece.rows.from;
-    let column = piece.columns.from;
-    let count = piece.columns.count;
-    let to = planes.at(first, row, column);
+    let row = area.rows.from;
+    let column = area.columns.from;
+    let b = band_at(layout.bands, all, bands, k);
+    let at = image.at(b, row, column);
+    let to = planes.at(k, row, column);
+    read_rows(
+        src,
+        at,
+        image.row,
+        image.column,
+        layout.nbpp as usize,
+        planes.column,
+        area.columns.count,
+        out,
+        to,
+        planes.row,
+        area.rows.count,
+    )
+}
+
+// The same of each band asked for.
+fn read_bands(
+    src: &[u8],
+    layout: BlockLayout,
+    sides: Sides,
+    all: bool,
+    bands: &[u32],
+    area: Area,
+    out: &mut [u8],
+)
+    requires { ⌜ sides ≡ sidesOf layout (sides .part) (sides .rows) (sides .columns) ⌝ }
+    requires { ⌜ Readable layout (length (now src)) (sides .part) (bandsOf all (now bands)) (sides .rows)
+        (sides .columns) (length (now out)) ⌝ }
+    requires { ⌜ AreaIn (sides .part .rows) (sides .part .columns) area ⌝ }
+    requires { ⌜ hasStrides layout ≡ true ⌝ }
+    ensures { λ _. ⌜ SomeRead layout (now (src .entry)) (sides .part) (bandsOf all (now (bands .entry)))
+        (sides .rows) (sides .columns) (InArea area) (now (out .entry)) (now (out .exit)) ⌝ }
+{
+    for k in 0..band_count(layout.bands, all, bands) {
+        read_band(src, layout, sides, all, bands, area, k, out);
+    }
+}
+
+// A row of an area of a part, of all listed bands, goes to its places in `out`, pixel by pixel.
+fn read_pixels(
+    src: &[u8],
+    layout: BlockLayout,
+    sides: Sides,
+    bands: &[u32],
+    area: Area,
+    out: &mut [u8],
+)
+    requires { ⌜ sides ≡ sidesOf layout (sides .part) (sides .rows) (sides .columns) ⌝ }
+    requires { ⌜ Readable layout (length (now src)) (sides .part) (bandsOf false (now bands)) (sides .rows)
+        (sides .columns) (length (now out)) ⌝ }
+    requires { ⌜ PieceIn (bandCount (layout .bands) (bandsOf false (now bands))) (sides .part .rows)
+        (sides .part .columns) (bandsOfArea area (length (now bands))) ⌝ }
+    requires { ⌜ WayFits Pixels layout (length (now bands)) (area .rows .count) ⌝ }
+    ensures { λ _. ⌜ SomeRead layout (now (src .entry)) (sides .part) (bandsOf false (now (bands .entry)))
+        (sides .rows) (sides .columns) (InPiece (bandsOfArea area (length (now (bands .entry))))) (now (out .entry))
+        (now (out .exit)) ⌝ }
+{
+    let image = sides.image;
+    let planes = sides.planes;
+    let row = area.rows.from;
+    let column = area.columns.from;
+    let at = image.at(0, row, column);
+    let to = planes.at(0, row, column);
+    gather_listed(
+        src,
+        at / 8,
+        image.column / 8,
+        image.band / 8,
+        planes.column,
+        bands,
+        area.columns.count,
+        out,
+        to,
+        planes.band,
+    )
+}
+
+// A row of an area of a part, of one of the bands asked for, goes to its places in `out`. It is cut where runs end.
+fn read_line(
+    src: &[u8],
+    layout: BlockLayout,
+    sides: Sides,
+    all: bool,
+    bands: &[u32],
+    area: Area,
+    k: usize,
+    out: &mut [u8],
+)
+    requires { ⌜ sides ≡ sidesOf layout (sides .part) (sides .rows) (sides .columns) ⌝ }
+    requires { ⌜ Readable layout (length (now src)) (sides .part) (bandsOf all (now bands)) (sides .rows)
+        (sides .columns) (length (now out)) ⌝ }
+    requires { ⌜ PieceIn (bandCount (layout .bands) (bandsOf all (now bands))) (sides .part .rows)
+        (sides .part .columns) (bandOf area k) ⌝ }
+    requires { ⌜ area .rows .count ≡ 1 ⌝ }
+    ensures { λ _. ⌜ SomeRead layout (now (src .entry)) (sides .part) (bandsOf all (now (bands .entry)))
+        (sides .rows) (sides .columns) (InPiece (bandOf area k)) (now (out .entry)) (now (out .exit)) ⌝ }
+{
+    let part = sides.part;
+    let planes = sides.planes;
+    let row = area.rows.from;
+    let column = area.columns.from;
+    let b = band_at(layout.bands, all, bands, k);
+    let to = planes.at(k, row, column);
+    let r = part.r + row;
+    let c = part.c + column;
+    read_row(src, layout, b, r, c, area.columns.count, out, to)
+}
+
+// The same of each band asked for.
+fn read_lines(
+    src: &[u8],
+    layout: BlockLayout,
+    sides: Sides,
+    all: bool,
+    bands: &[u32],
+    area: Area,
+    out: &mut [u8],
+)
+    requires { ⌜ sides ≡ sidesOf layout (sides .part) (sides .rows) (sides .columns) ⌝ }
+    requires { ⌜ Readable layout (length (now src)) (sides .part) (bandsOf all (now bands)) (sides .rows)
+        (sides .columns) (length (now out)) ⌝ }
+    requires { ⌜ AreaIn (sides .part .rows) (sides .part .columns) area ⌝ }
+    requires { ⌜ area .rows .count ≡ 1 ⌝ }
+    ensures { λ _. ⌜ SomeRead layout (now (src .entry)) (sides .part) (bandsOf all (now (bands .entry)))
+        (sides .rows) (sides .columns) (InArea area) (now (out .entry)) (now (out .exit)) ⌝ }
+{
+    for k in 0..band_count(layout.bands, all, bands) {
+        read_line(src, layout, sides, all, bands, area, k, out);
+    }
+}
+
+// The samples of an area of a part, of each band asked for, go to their places in `out`.
+fn read_area(
+    src: &[u8],
+    layout: BlockLayout,
+    sides: Sides,
+    all: bool,
+    bands: &[u32],
+    order: Order,
+    area: Area,
+    out: &mut [u8],
+)
+    requires { ⌜ sides ≡ sidesOf layout (sides .part) (sides .rows) (sides .columns) ⌝ }
+    requires { ⌜ Readable layout (length (now src)) (sides .part) (bandsOf all (now bands)) (sides .rows)
+        (sides .columns) (length (now out)) ⌝ }
+    requires { ⌜ AreaMoves layout (bandCount (layout .bands) (bandsOf all (now bands))) (sides .part .rows)
+        (sides .part .columns) order area ⌝ }
+    requires { ⌜ ListedOrder (order .way) all (bandCount (layout .bands) (bandsOf all (now bands)))
+        (order .bands .most) ⌝ }
+    ensures { λ _. ⌜ SomeRead layout (now (src .entry)) (sides .part) (bandsOf all (now (bands .entry)))
+        (sides .rows) (sides .columns) (InArea area) (now (out .entry)) (now (out .exit)) ⌝ }
+{
+    let way = order.way;
     match way {
-        Way::Rows => {
-            let b = band_at(layout.bands, all, bands, first);
-            let at = image.at(b, row, column);
-            read_rows(
-                src,
-                at,
-                image.row,
-                image.column,
-                layout.nbpp as usize,
-                planes.column,
-                count,
-                out,
-                to,
-                planes.row,
-                piece.rows.count,
-            )
-        }
-        Way::Pixels => {
-            let at = image.at(0, row, column);
-            gather_listed(
-                src,
-                at / 8,
-                image.column / 8,
-                image.band / 8,
-                planes.column,
-                bands,
-                count,
-                out,
-                to,
-                planes.band,
-            )
-        }
-        Way::Runs => {
-            let b = band_at(layout.bands, all, bands, first);
-            let r = sides.part.r + row;
-            let c = sides.part.c + column;
-            read_row(src, layout, b, r, c, count, out, to)
-        }
+        Way::Rows => read_bands(src, layout, sides, all, bands, area, out),
+        Way::Pixels => read_pixels(src, layout, sides, bands, area, out),
+        Way::Runs => read_lines(src, layout, sides, all, bands, area, out),
     }
 }
 
@@ -139,11 +261,10 @@ pub fn read_part(
     let together = listed_together(all, count);
     let order = choose(layout, together, count, part.rows, part.columns);
     let sides = both_sides(layout, part, rows, columns);
-    let mut piece = order.piece(0);
-    for k in 0..order.pieces() {
-        let way = order.way;
-        read_piece(src, layout, sides, all, bands, way, piece, out);
-        piece = order.next(piece);
+    let mut area = order.first_area();
+    for k in 0..order.areas() {
+        read_area(src, layout, sides, all, bands, order, area, out);
+        area = order.next_area(area);
     }
 }
 

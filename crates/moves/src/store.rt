@@ -6,7 +6,9 @@ ghost use Rattle.layout.specs.Internal.Layout.{Sound};
 ghost use Rattle.moves.specs.Internal.Parts.{wholePart};
 ghost use Rattle.moves.specs.Internal.Stores.{clearRuns, putBlock, storeBlock, Writable, SomePut};
 ghost use Rattle.moves.specs.Internal.Spacings.{sidesOf};
-ghost use Rattle.moves.specs.Internal.Orders.{PieceIn, InPiece, WayFits};
+ghost use Rattle.moves.specs.Internal.Orders.{PieceIn, InPiece, WayFits, InArea, AreaMoves};
+use crate::order::Area;
+use crate::order::Order;
 use crate::order::Piece;
 use crate::order::STORED_AT_ONCE;
 use crate::order::Way;
@@ -94,7 +96,29 @@ fn store_piece(
     }
 }
 
-// Puts the samples of a block, piece by piece.
+// Puts the samples of an area of a block, of each band.
+fn store_area(
+    image: &mut [u8],
+    layout: BlockLayout,
+    sides: Sides,
+    order: Order,
+    area: Area,
+    dat: &[u8],
+)
+    requires { ⌜ sides ≡ sidesOf layout (wholePart (layout .rows) (layout .columns)) (layout .rows)
+        (layout .columns) ⌝ }
+    requires { ⌜ Writable layout (now dat) (now image) ⌝ }
+    requires { ⌜ AreaMoves layout (layout .bands) (layout .rows) (layout .columns) order area ⌝ }
+    ensures { λ _. ⌜ SomePut layout (now (dat .entry)) (InArea area) (now (image .entry)) (now (image .exit)) ⌝ }
+{
+    let parts = order.bands.parts;
+    for p in 0..parts {
+        let way = order.way;
+        store_piece(image, layout, sides, way, order.piece(area, p), dat);
+    }
+}
+
+// Puts the samples of a block, area by area.
 fn put_block(image: &mut [u8], layout: BlockLayout, dat: &[u8])
     requires { ⌜ Writable layout (now dat) (now image) ⌝ }
     ensures { λ _. ⌜ now (image .exit) ≡ putBlock layout (now (dat .entry)) (now (image .entry)) ⌝ }
@@ -103,11 +127,10 @@ fn put_block(image: &mut [u8], layout: BlockLayout, dat: &[u8])
     let columns = layout.columns;
     let order = choose(layout, STORED_AT_ONCE, layout.bands as usize, rows, columns);
     let sides = both_sides(layout, whole_part(rows, columns), rows, columns);
-    let mut piece = order.piece(0);
-    for k in 0..order.pieces() {
-        let way = order.way;
-        store_piece(image, layout, sides, way, piece, dat);
-        piece = order.next(piece);
+    let mut area = order.first_area();
+    for k in 0..order.areas() {
+        store_area(image, layout, sides, order, area, dat);
+        area = order.next_area(area);
     }
 }
 

@@ -1,6 +1,6 @@
 -- The order in which samples of a part are moved: pieces of some bands, rows and columns.
 -- Assumes nothing.
-use Prim.Native.Nat.{ℕ, _+_, _-_, _*_, _/_, _%_, min, _≤_, _<_}
+use Prim.Native.Nat.{ℕ, _+_, _-_, _*_, _/_, _%_, _^_, min, _≤_, _<_}
 use mathlib.Core.Path.{_≡_}
 use mathlib.Core.Bool.{Bool, true, false}
 use lib.Dec.{ltb}
@@ -10,6 +10,7 @@ use Rattle.layout.specs.declared.BlockLayout.{BlockLayout}
 use Rattle.layout.specs.Internal.Spacing.{hasStrides, bandStride}
 use Rattle.moves.specs.declared.order.Cut.{Cut}
 use Rattle.moves.specs.declared.order.Span.{Span}
+use Rattle.moves.specs.declared.order.Area.{Area}
 use Rattle.moves.specs.declared.order.Piece.{Piece}
 use Rattle.moves.specs.declared.order.Order.{Order}
 use Rattle.moves.specs.declared.order.Way.{Way}
@@ -43,37 +44,49 @@ pub record InSpan (s : Span) (x : ℕ) : Type 0 where
   pub low : s .from ≤ x
   pub high : x < s .from + s .count
 
--- ---- pieces
-
-abbrev pub pieceCount : Order → ℕ
-pieceCount o = o .rows .parts * o .columns .parts * o .bands .parts
+-- ---- areas and pieces
 
 abbrev pub orderOf : Way → (bands b rows r columns c : ℕ) → Order
 orderOf way bands b rows r columns c =
     record { way = way; bands = cutInto bands b; rows = cutInto rows r; columns = cutInto columns c }
 
--- bands change fastest, then columns, then rows
-abbrev pub pieceOf : Order → ℕ → Piece
-pieceOf o k =
-    record {
-      bands = partOf (o .bands) (k % o .bands .parts);
-      rows = partOf (o .rows) (k / o .bands .parts / o .columns .parts);
-      columns = partOf (o .columns) (k / o .bands .parts % o .columns .parts);
-    }
+abbrev pub areaCount : Order → ℕ
+areaCount o = o .rows .parts * o .columns .parts
 
--- the piece after a piece, by the next parts of the bands, the columns and the rows: the first; where the bands begin
--- again the second too, and where the columns do the third
-abbrev pub advanced : (bands columns rows : Span) → Piece → Piece
-advanced bands columns rows p =
-    pick (ltb 0 (bands .from))
-    (record { bands = bands; rows = p .rows; columns = p .columns })
-    (pick (ltb 0 (columns .from))
-    (record { bands = bands; rows = p .rows; columns = columns })
-    (record { bands = bands; rows = rows; columns = columns }))
+-- columns change first, then rows
+abbrev pub areaOf : Order → ℕ → Area
+areaOf o a =
+    record { rows = partOf (o .rows) (a / o .columns .parts); columns = partOf (o .columns) (a % o .columns .parts) }
 
-abbrev pub nextPiece : Order → Piece → Piece
-nextPiece o p =
-    advanced (nextPart (o .bands) (p .bands)) (nextPart (o .columns) (p .columns)) (nextPart (o .rows) (p .rows)) p
+-- the area after an area, by the next parts of the columns and the rows: where the columns begin again, both
+abbrev pub advanced : (columns rows : Span) → Area → Area
+advanced columns rows a =
+    pick (ltb 0 (columns .from))
+    (record { rows = a .rows; columns = columns })
+    (record { rows = rows; columns = columns })
+
+abbrev pub nextArea : Order → Area → Area
+nextArea o a = advanced (nextPart (o .columns) (a .columns)) (nextPart (o .rows) (a .rows)) a
+
+pub record AreaIn (rows columns : ℕ) (a : Area) : Type 0 where
+  pub in-rows : SpanIn rows (a .rows)
+  pub in-columns : SpanIn columns (a .columns)
+
+-- the samples of an area, of whatever band
+pub record InArea (a : Area) (b r c : ℕ) : Type 0 where
+  pub in-r : InSpan (a .rows) r
+  pub in-c : InSpan (a .columns) c
+
+-- part p of the bands, of an area
+abbrev pub pieceOf : Order → Area → ℕ → Piece
+pieceOf o a p = record { bands = partOf (o .bands) p; rows = a .rows; columns = a .columns }
+
+-- one band of an area, and its first n bands
+abbrev pub bandOf : Area → ℕ → Piece
+bandOf a k = record { bands = record { from = k; count = 1 }; rows = a .rows; columns = a .columns }
+
+abbrev pub bandsOfArea : Area → ℕ → Piece
+bandsOfArea a n = record { bands = record { from = 0; count = n }; rows = a .rows; columns = a .columns }
 
 pub record RightCuts (o : Order) : Type 0 where
   pub bands-cut : RightCut (o .bands)
@@ -110,6 +123,20 @@ abbrev pub Listed : Way → Bool → ℕ → Span → Type 0
 Listed Rows all count bands = Unit {0}
 Listed Pixels all count bands = (all ≡ false) × (bands .from ≡ 0) × (bands .count ≡ count)
 Listed Runs all count bands = Unit {0}
+
+-- the same of an order: the list goes together
+abbrev pub ListedOrder : Way → Bool → (count most : ℕ) → Type 0
+ListedOrder Rows all count most = Unit {0}
+ListedOrder Pixels all count most = (all ≡ false) × (most ≡ count)
+ListedOrder Runs all count most = Unit {0}
+
+-- an area of an order of so many bands, rows and columns
+pub record AreaMoves (l : BlockLayout) (bands rows columns : ℕ) (o : Order) (a : Area) : Type 0 where
+  pub bands-cut : RightCut (o .bands)
+  pub bands-are : o .bands .length ≡ bands
+  pub parts-fit : o .bands .parts < 2 ^ 64
+  pub inside : AreaIn rows columns a
+  pub way-fits : WayFits (o .way) l (o .bands .most) (a .rows .count)
 
 -- an order of so many bands, rows and columns, in which at most `together` bands are moved pixel by pixel
 pub record Chosen (l : BlockLayout) (together bands rows columns : ℕ) (o : Order) : Type 0 where

@@ -1,4 +1,4 @@
--- `moves::part::read_part` meets its contract: the samples of k pieces are read.
+-- `moves::part::read_part` meets its contract: the samples of k areas are read.
 -- Assumes nothing.
 use borrow.Author.Needs.{needs}
 use mathlib.Core.Path.{_≡_, _∙_}
@@ -10,36 +10,36 @@ use Rattle.layout.specs.Bands.{bandsOf, bandCount}
 use Rattle.layout.proofs.Places.{sample-size}
 use Rattle.moves.specs.Internal.Parts.{answerTarget}
 use Rattle.moves.specs.Internal.Puts.{Puts}
-use Rattle.moves.specs.Internal.Orders.{pieceCount, pieceOf, Chosen}
+use Rattle.moves.specs.Internal.Orders.{areaCount, areaOf, Chosen}
 use Rattle.moves.proofs.Putting.{puts-none}
 use Rattle.moves.proofs.Answers.{answer-done}
 use Rattle.moves.proofs.Pieces.{planes-fit, samples-fit}
 use Rattle.moves.proofs.ReadPieces.{own-sides, own-readable, own-order, read-done}
-use Rattle.moves.proofs.Orders.{PiecesBefore, no-piece, piece-turn, pieces-done, pieces-fit, some-pieces}
-use Rattle.moves.proofs.Orders.{piece-within, piece-follows, piece-inside, piece-way, piece-listed}
+use Rattle.moves.proofs.Orders.{AreasBefore, no-area, area-turn, areas-done, areas-fit}
+use Rattle.moves.proofs.Orders.{area-within, area-follows, area-moves, order-listed}
 use Rattle.moves.proofs.part.read_part.Statement.{statement}
 use Rattle.moves.proofs.part.read_part.Tie as tie
 
 abbrev Inv-loop : tie.InvT-loop
-Inv-loop src layout all bands rows columns out₀ count together order sides piece₀ k₀ k-end out piece k =
+Inv-loop src layout all bands rows columns out₀ count together order sides area₀ k₀ k-end out area k =
     (k ≤ k-end) × Puts (answerTarget layout src (sides .part) (bandsOf all bands) (sides .rows) (sides .columns))
-    (PiecesBefore order k) out₀ out
-    × (k < pieceCount order → piece ≡ pieceOf order k)
+    (AreasBefore order k) out₀ out
+    × (k < areaCount order → area ≡ areaOf order k)
 
 abbrev μ-loop : tie.MeasureT-loop
-μ-loop src layout all bands rows columns out₀ count together order sides piece₀ k₀ k-end out piece k = k-end - k
+μ-loop src layout all bands rows columns out₀ count together order sides area₀ k₀ k-end out area k = k-end - k
 
 -- before the loop, in a turn, and the function's start
 abbrev numbers : tie.In-loop Inv-loop μ-loop → tie.After-both-sides Inv-loop μ-loop
 numbers c = c .before .before .before .before
 
--- the piece of a turn
-in-turn : (c : tie.In-loop Inv-loop μ-loop) → c .before .loop .k < pieceCount (numbers c .before .choose .result)
-in-turn c = omega (arith, c .loop-test .taken, c .before .before .pieces .ensures)
+-- the area of a turn
+in-turn : (c : tie.In-loop Inv-loop μ-loop) → c .before .loop .k < areaCount (numbers c .before .choose .result)
+in-turn c = omega (arith, c .loop-test .taken, c .before .before .areas .ensures)
 
-piece-is : (c : tie.In-loop Inv-loop μ-loop)
-    → c .before .loop .piece ≡ pieceOf (numbers c .before .choose .result) (c .before .loop .k)
-piece-is c = c .before .loop .inv .2 (in-turn c)
+area-is : (c : tie.In-loop Inv-loop μ-loop)
+    → c .before .loop .area ≡ areaOf (numbers c .before .choose .result) (c .before .loop .k)
+area-is c = c .before .loop .inv .2 (in-turn c)
 
 abbrev start : tie.After-both-sides Inv-loop μ-loop → tie.Start Inv-loop μ-loop
 start c = c .before .before .before .before .before .before .before .before
@@ -99,41 +99,40 @@ both-sides-requires c κs =
       ),
     )
 
-piece-requires : tie.Need-piece-requires Inv-loop μ-loop
-piece-requires c κs =
+first-area-requires : tie.Need-first-area-requires Inv-loop μ-loop
+first-area-requires c κs =
     let t = start c .pre in
     let chosen = c .before .choose .ensures in
-    let e = c .before .before .before .before .band-count .ensures in
-    (chosen .right, some-pieces chosen (omega (arith, some (c .before .before .before), e)) (t .some-rows) (t .some-columns))
+    (omega (arith, t .some-rows, chosen .rows-are), omega (arith, t .some-columns, chosen .columns-are))
 
-pieces-requires : tie.Need-pieces-requires Inv-loop μ-loop
-pieces-requires c κs =
+areas-requires : tie.Need-areas-requires Inv-loop μ-loop
+areas-requires c κs =
     let s = start (c .before) in
     let n = c .before .before .before .before in
     let g = samples-fit _ _ _ _ _ _ _ (s .pre) (in-out s) in
-    pieces-fit (c .before .before .choose .ensures) (rw (n .before .band-count .ensures) g)
+    areas-fit (c .before .before .choose .ensures) (rw (n .before .band-count .ensures) g)
     (omega (arith, n .if1 .left))
 
 loop-holds : tie.Need-loop-holds Inv-loop μ-loop
-loop-holds c = (omega arith, no-piece _ (c .before .before .before .choose .result) _, λ h. c .before .piece .ensures)
+loop-holds c =
+    (omega arith, no-area _ (c .before .before .before .choose .result) _, λ h. c .before .first-area .ensures)
 
-read-piece-requires : tie.Need-read-piece-requires Inv-loop μ-loop
-read-piece-requires c κs =
+read-area-requires : tie.Need-read-area-requires Inv-loop μ-loop
+read-area-requires c κs =
     let turn = c .before in
     let n = numbers turn in
     let s = start n in
-    let h = in-turn turn in
-    let e = n .before .before .before .before .band-count .ensures in
+    let count = n .before .before .before .before in
+    let e = count .band-count .ensures in
     let few = n .before .before .listed-together .ensures in
-    let listed = piece-listed (order-is n) _ h (piece-is turn) _ (λ g. let f = few g in (f .0, f .1 ∙ e)) in
-    let way = piece-way (order-is n) _ h (piece-is turn) in
-    let inside = piece-inside (order-is n) _ h (piece-is turn) in
+    let listed = order-listed (order-is n) _ (λ g. let f = few g in (f .0, f .1 ∙ e)) in
+    let moves = area-moves (order-is n) _ (in-turn turn) (area-is turn) (omega (arith, e)) in
     let t = own-readable (n .both-sides .ensures) _ _ (s .pre) (turn .before .loop .inv .1 .size) in
-    (own-sides _ (n .both-sides .ensures), (t, (inside, (way, listed))))
+    (own-sides _ (n .both-sides .ensures), (t, (moves, listed)))
 
-next-requires : tie.Need-next-requires Inv-loop μ-loop
-next-requires c κs =
-    let turn = c .before .before .before .before in piece-within (order-is (numbers turn)) _ (in-turn turn) (piece-is turn)
+next-area-requires : tie.Need-next-area-requires Inv-loop μ-loop
+next-area-requires c κs =
+    let turn = c .before .before .before .before in area-within (order-is (numbers turn)) _ (in-turn turn) (area-is turn)
 
 add-k : tie.Need-add-k Inv-loop μ-loop
 add-k c = omega arith
@@ -146,9 +145,9 @@ loop-again c =
     let turn = c .before .before .before .before .before in
     let n = numbers turn in
     let h = in-turn turn in
-    let read = c .before .before .before .read-piece .ensures in
-    let puts = piece-turn _ (order-is n) _ (piece-is turn) (turn .before .loop .inv .1) read in
-    (omega (arith, turn .loop-test .taken), puts, piece-follows (order-is n) _ h (piece-is turn) (c .next .ensures))
+    let read = c .before .before .before .read-area .ensures in
+    let puts = area-turn _ (order-is n) _ (area-is turn) (turn .before .loop .inv .1) read in
+    (omega (arith, turn .loop-test .taken), puts, area-follows (order-is n) _ h (area-is turn) (c .next-area .ensures))
 
 same-length : tie.Need-same-length Inv-loop μ-loop
 same-length c = c .before .loop .inv .1 .size
@@ -157,13 +156,13 @@ returns-2 : tie.Need-returns-2 Inv-loop μ-loop
 returns-2 c =
     let n = c .before .before .before .before in
     let t = start n .pre in
-    let e : c .before .loop .k ≡ pieceCount (n .before .choose .result)
-    = omega (arith, c .before .before .pieces .ensures) in
-    let all = pieces-done _ (order-is n) (c .before .loop .k) e in
+    let e : c .before .loop .k ≡ areaCount (n .before .choose .result)
+    = omega (arith, c .before .before .areas .ensures) in
+    let all = areas-done _ (order-is n) (c .before .loop .k) e in
     read-done _ _ _ _ _ _ _ _ (n .both-sides .ensures) t (c .before .loop .inv .1) all
 
 pub read-part-spec : {M : Type 1} → statement M
 read-part-spec =
     tie.close
     (tie.spec Inv-loop μ-loop band-count-requires returns listed-together-requires choose-requires both-sides-requires
-    piece-requires pieces-requires loop-holds read-piece-requires next-requires add-k loop-less loop-again same-length returns-2)
+    first-area-requires areas-requires loop-holds read-area-requires next-area-requires add-k loop-less loop-again same-length returns-2)

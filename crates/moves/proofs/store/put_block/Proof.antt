@@ -1,4 +1,4 @@
--- `moves::store::put_block` meets its contract: the samples of k pieces are put.
+-- `moves::store::put_block` meets its contract: the samples of k areas are put.
 -- Assumes nothing.
 use borrow.Author.Needs.{needs}
 use mathlib.Core.Path.{_≡_, ap, _∙_}
@@ -10,36 +10,37 @@ use Rattle.moves.specs.declared.part.Part.{Part}
 use Rattle.moves.specs.Internal.Spacings.{sidesOf}
 use Rattle.moves.specs.Internal.Puts.{Puts}
 use Rattle.moves.specs.Internal.Stores.{dataAt, putBlock, imageTarget}
-use Rattle.moves.specs.Internal.Orders.{pieceCount, pieceOf}
+use Rattle.moves.specs.Internal.Orders.{areaCount, areaOf}
 use Rattle.moves.proofs.Stored.{put-done}
 use Rattle.moves.proofs.StoreBounds.{stays-writable}
 use Rattle.layout.proofs.Places.{data-fits}
+use Rattle.layout.proofs.Spaced.{strides-fit}
 use Rattle.moves.proofs.StorePieces.{whole-planes}
-use Rattle.moves.proofs.Orders.{PiecesBefore, no-piece, piece-turn, pieces-done, pieces-fit, some-pieces}
-use Rattle.moves.proofs.Orders.{piece-within, piece-follows, piece-inside, piece-way}
+use Rattle.moves.proofs.Orders.{AreasBefore, no-area, area-turn, areas-done, areas-fit}
+use Rattle.moves.proofs.Orders.{area-within, area-follows, area-moves}
 use Rattle.moves.proofs.store.put_block.Statement.{statement}
 use Rattle.moves.proofs.store.put_block.Tie as tie
 
 abbrev Inv-loop : tie.InvT-loop
-Inv-loop image₀ layout dat rows columns order sides piece₀ k₀ k-end image piece k =
-    (k ≤ k-end) × Puts (imageTarget layout (dataAt layout dat)) (PiecesBefore order k) image₀ image
-    × (k < pieceCount order → piece ≡ pieceOf order k)
+Inv-loop image₀ layout dat rows columns order sides area₀ k₀ k-end image area k =
+    (k ≤ k-end) × Puts (imageTarget layout (dataAt layout dat)) (AreasBefore order k) image₀ image
+    × (k < areaCount order → area ≡ areaOf order k)
 
 abbrev μ-loop : tie.MeasureT-loop
-μ-loop image₀ layout dat rows columns order sides piece₀ k₀ k-end image piece k = k-end - k
+μ-loop image₀ layout dat rows columns order sides area₀ k₀ k-end image area k = k-end - k
 
 -- before the loop, in a turn, and the function's start
 abbrev numbers : tie.In-loop Inv-loop μ-loop → tie.After-both-sides Inv-loop μ-loop
 numbers c = c .before .before .before .before
 
--- the piece of a turn
+-- the area of a turn
 in-turn : (c : tie.In-loop Inv-loop μ-loop)
-    → c .before .loop .k < pieceCount (numbers c .before .before .choose .result)
-in-turn c = omega (arith, c .loop-test .taken, c .before .before .pieces .ensures)
+    → c .before .loop .k < areaCount (numbers c .before .before .choose .result)
+in-turn c = omega (arith, c .loop-test .taken, c .before .before .areas .ensures)
 
-piece-is : (c : tie.In-loop Inv-loop μ-loop)
-    → c .before .loop .piece ≡ pieceOf (numbers c .before .before .choose .result) (c .before .loop .k)
-piece-is c = c .before .loop .inv .2 (in-turn c)
+area-is : (c : tie.In-loop Inv-loop μ-loop)
+    → c .before .loop .area ≡ areaOf (numbers c .before .before .choose .result) (c .before .loop .k)
+area-is c = c .before .loop .inv .2 (in-turn c)
 
 abbrev start : tie.After-both-sides Inv-loop μ-loop → tie.Start Inv-loop μ-loop
 start c = c .before .before .before .before .before .before
@@ -65,23 +66,23 @@ both-sides-requires c κs =
     rw (c .whole-part .ensures)
     (f, (record { in-b = f .some-bands; in-r = f .some-rows; in-c = f .some-columns }, fit))
 
-piece-requires : tie.Need-piece-requires Inv-loop μ-loop
-piece-requires c κs =
+first-area-requires : tie.Need-first-area-requires Inv-loop μ-loop
+first-area-requires c κs =
     let f = start c .pre .accepted in
     let chosen = c .before .before .choose .ensures in
-    (chosen .right, some-pieces chosen (f .some-bands) (f .some-rows) (f .some-columns))
+    (omega (arith, f .some-rows, chosen .rows-are), omega (arith, f .some-columns, chosen .columns-are))
 
-pieces-requires : tie.Need-pieces-requires Inv-loop μ-loop
-pieces-requires c κs =
+areas-requires : tie.Need-areas-requires Inv-loop μ-loop
+areas-requires c κs =
     let f = start (c .before) .pre .accepted in
-    pieces-fit (c .before .before .before .choose .ensures) (data-fits _ f .samples) (f .some-bands)
+    areas-fit (c .before .before .before .choose .ensures) (data-fits _ f .samples) (f .some-bands)
 
 loop-holds : tie.Need-loop-holds Inv-loop μ-loop
 loop-holds c =
-    (omega arith, no-piece _ (c .before .before .before .before .choose .result) _, λ h. c .before .piece .ensures)
+    (omega arith, no-area _ (c .before .before .before .before .choose .result) _, λ h. c .before .first-area .ensures)
 
-store-piece-requires : tie.Need-store-piece-requires Inv-loop μ-loop
-store-piece-requires c κs =
+store-area-requires : tie.Need-store-area-requires Inv-loop μ-loop
+store-area-requires c κs =
     let turn = c .before in
     let n = numbers turn in
     let s = start n in
@@ -89,14 +90,14 @@ store-piece-requires c κs =
     let chosen = n .before .before .choose .ensures in
     let whole = ap (λ (x : Part). sidesOf l x (l .rows) (l .columns)) (n .before .whole-part .ensures) in
     let w = stays-writable (s .pre) (turn .before .loop .inv .1 .size) in
-    let inside = piece-inside chosen _ (in-turn turn) (piece-is turn) in
-    let way = piece-way chosen _ (in-turn turn) (piece-is turn) in
-    (n .both-sides .ensures ∙ whole, (w, (inside, way)))
+    let fits : l .bands < 2 ^ 64 = omega (arith, strides-fit l (s .pre .accepted) .bands-le) in
+    let moves = area-moves chosen _ (in-turn turn) (area-is turn) fits in
+    (n .both-sides .ensures ∙ whole, (w, moves))
 
-next-requires : tie.Need-next-requires Inv-loop μ-loop
-next-requires c κs =
+next-area-requires : tie.Need-next-area-requires Inv-loop μ-loop
+next-area-requires c κs =
     let turn = c .before .before .before .before in
-    piece-within (numbers turn .before .before .choose .ensures) _ (in-turn turn) (piece-is turn)
+    area-within (numbers turn .before .before .choose .ensures) _ (in-turn turn) (area-is turn)
 
 add-k : tie.Need-add-k Inv-loop μ-loop
 add-k c = omega arith
@@ -108,9 +109,9 @@ loop-again : tie.Need-loop-again Inv-loop μ-loop
 loop-again c =
     let turn = c .before .before .before .before .before in
     let chosen = numbers turn .before .before .choose .ensures in
-    let put = c .before .before .before .store-piece .ensures in
-    let puts = piece-turn _ chosen _ (piece-is turn) (turn .before .loop .inv .1) put in
-    let follows = piece-follows chosen _ (in-turn turn) (piece-is turn) (c .next .ensures) in
+    let put = c .before .before .before .store-area .ensures in
+    let puts = area-turn _ chosen _ (area-is turn) (turn .before .loop .inv .1) put in
+    let follows = area-follows chosen _ (in-turn turn) (area-is turn) (c .next-area .ensures) in
     (omega (arith, turn .loop-test .taken), puts, follows)
 
 same-length : tie.Need-same-length Inv-loop μ-loop
@@ -121,14 +122,14 @@ unfolding putBlock
 returns c =
     let n = c .before .before .before .before in
     let w = start n .pre in
-    let e : c .before .loop .k ≡ pieceCount (n .before .before .choose .result)
-    = omega (arith, c .before .before .pieces .ensures) in
+    let e : c .before .loop .k ≡ areaCount (n .before .before .choose .result)
+    = omega (arith, c .before .before .areas .ensures) in
     let bytes = n .before .before .before .before .before .slice-known in
-    let all = pieces-done _ (n .before .before .choose .ensures) (c .before .loop .k) e in
+    let all = areas-done _ (n .before .before .choose .ensures) (c .before .loop .k) e in
     put-done _ (w .accepted) _ (λ i. bytes .given i .fits) (w .image-holds) (c .before .loop .inv .1) all
 
 pub put-block-spec : {M : Type 1} → statement M
 put-block-spec =
     tie.close
-    (tie.spec Inv-loop μ-loop cast-choose choose-requires whole-part-requires both-sides-requires piece-requires
-    pieces-requires loop-holds store-piece-requires next-requires add-k loop-less loop-again same-length returns)
+    (tie.spec Inv-loop μ-loop cast-choose choose-requires whole-part-requires both-sides-requires first-area-requires
+    areas-requires loop-holds store-area-requires next-area-requires add-k loop-less loop-again same-length returns)
