@@ -1,7 +1,7 @@
 -- Demand 3 at the figures' list of calls: the calls tell what the plain frame tells.
 -- Assumes nothing.
 use mathlib.Core.Path.{_≡_, refl, ap₂}
-use mathlib.Core.List.{_∷_, []}
+use mathlib.Core.List.{_∷_}
 use lib.ListN.{replicate}
 use Rattle.common.specs.Tests.{every, some, within}
 use Rattle.grid.specs.Widths.{widthTaken}

@@ -7,7 +7,7 @@ use native.Mathlib.Omega.{arith}
 use lib.ListN.{length, take, length-take}
 use Rattle.grid.specs.declared.Grid.{Grid}
 use Rattle.grid.specs.Check.{Accepted}
-use Rattle.grid.specs.Sizes.{sampleBytes, blocks, imageBytes}
+use Rattle.grid.specs.Sizes.{sampleBytes}
 use Rattle.grid.proofs.Accepted.{facts}
 use Rattle.grid.proofs.SamplePlaces.{inside}
 use Rattle.layout.specs.Bands.{bandCount}
@@ -19,7 +19,7 @@ use Rattle.frame.specs.Calls.{Start, Accepts, started, after, inForce}
 use Rattle.frame.specs.PlainFrame.{Frame, frame0, frameWindow}
 use Rattle.frame.specs.Demand3.{plain, Alike, Demand3}
 use Rattle.frame.proofs.PlainBytes.{window-by}
-use Rattle.frame.proofs.ListOfCalls.{Inv, CalledOk, calls-ok, start-ok}
+use Rattle.frame.proofs.ListOfCalls.{CalledOk, calls-ok, start-ok}
 use Rattle.frame.proofs.WindowNumbers.{window-facts, window-is, alike}
 
 pub ran : (s : Start) (cs : List Call) → Accepts s

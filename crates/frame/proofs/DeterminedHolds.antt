@@ -1,8 +1,8 @@
 -- The image and the marks are functions of the plain frame.
 -- Assumes nothing.
 use Prim.Native.Nat.{ℕ, suc, _+_, _-_, _*_, _/_, _%_, _^_, _≤_, _<_}
-use mathlib.Core.Path.{_≡_, refl, sym, ap, ap₂, _∙_, subst}
-use mathlib.Core.Bool.{Bool, true, false}
+use mathlib.Core.Path.{_≡_, sym, ap, ap₂, _∙_, subst}
+use mathlib.Core.Bool.{Bool}
 use mathlib.Core.List.{List}
 use native.Mathlib.Omega.{arith}
 use native.Mathlib.Decide.{ℕ-discrete, decLt}
@@ -18,9 +18,9 @@ use Rattle.grid.specs.Layout.{place, Block, Sample, SampleBit}
 use Rattle.grid.proofs.Accepted.{facts, across-pos}
 use Rattle.marks.specs.Marks.{markWords, marked}
 use Rattle.calls.proofs.Numbers.{Enough}
-use Rattle.frame.specs.Calls.{Start, Accepts, after, inForce}
+use Rattle.frame.specs.Calls.{after, inForce}
 use Rattle.frame.specs.Demand3.{plain}
-use Rattle.frame.specs.Determined.{SameBuffers, Determined}
+use Rattle.frame.specs.Determined.{Determined}
 use Rattle.frame.proofs.Bounded.{Below, same-bits}
 use Rattle.frame.proofs.ImageNumbers.{Holding}
 use Rattle.frame.proofs.MarksReached.{Marking}

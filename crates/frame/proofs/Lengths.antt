@@ -1,29 +1,22 @@
 -- What a store keeps of the image, put by put and run by run; above all its length.
 -- Assumes nothing.
-use Prim.Native.Nat.{ℕ, zero, suc, _+_, _≤_, _<_}
+use Prim.Native.Nat.{ℕ, _+_, _≤_, _<_}
 use mathlib.Core.Path.{_≡_, refl, _∙_}
 use mathlib.Core.Bool.{Bool, true, false}
 use mathlib.Core.List.{List}
 use native.Mathlib.Omega.{arith}
-use native.Mathlib.Nat.{mul-le-mul-right}
-use lib.Arith.{digits-lt}
 use lib.ListN.{length, replicate, length-replicate}
 use Rattle.bits.specs.Bits.{putBits}
-use Rattle.common.specs.Questions.{outcome}
 use Rattle.common.specs.Over.{over}
 use Rattle.bits.proofs.Bits.{length-putBits}
 use Rattle.common.proofs.Over.{length-over}
 use Rattle.grid.specs.declared.Grid.{Grid}
-use Rattle.layout.specs.declared.InterleaveMode.{InterleaveMode}
-use Rattle.layout.specs.declared.InterleaveMode.the-variants.{B, P, R, S}
-use Rattle.grid.specs.Sizes.{bandBytes, blocks, imageBytes, blockIndex, actualRows, actualColumns, byteMultiple}
+use Rattle.grid.specs.Sizes.{bandBytes, imageBytes, blockIndex, actualRows, actualColumns, byteMultiple}
 use Rattle.grid.specs.Layout.{runByte, place, Block, Sample}
 use Rattle.grid.proofs.SamplePlaces.{run-inside}
-use Rattle.marks.specs.Marks.{markWords}
-use Rattle.calls.specs.Writes.{dataAt, putBlock, clearRuns, storeBy, storeBlock, frameOut, number, unchanged, start}
+use Rattle.calls.specs.Writes.{dataAt, putBlock, clearRuns, storeBy, storeBlock, start}
 use Rattle.common.proofs.Turns.{iter-keep}
 use Rattle.common.proofs.Loops.{iter3-keep}
-use Rattle.calls.proofs.Numbers.{Enough, start-facts}
 
 -- ---- what each part of a store keeps
 

@@ -19,7 +19,7 @@ use Rattle.grid.specs.Layout.{Block}
 use Rattle.grid.proofs.Accepted.{index-lt}
 use Rattle.marks.specs.Marks.{markWords, marked, mark}
 use Rattle.marks.proofs.Marks.{length-mark, mark-same, mark-other, marked-take, marked-left, marked-zeros}
-use Rattle.calls.specs.Writes.{progressAnswer, finishAnswer, unmarkedAnswer}
+use Rattle.calls.specs.Writes.{progressAnswer, finishAnswer}
 use Rattle.frame.specs.PlainFrame.{Frame, reach, frameProgress, frameFinish}
 use Rattle.frame.proofs.Bounded.{Below, zeros-below, mark-below, left-below, take-below}
 use Rattle.frame.proofs.PlainBlocks.{count-is, first-is}

@@ -2,7 +2,7 @@
 -- Assumes nothing.
 use Prim.Native.Nat.{ℕ, zero, suc, _+_, _*_, min, _<_}
 use mathlib.Core.Path.{_≡_, refl, sym, ap, ap₂, _∙_, subst}
-use mathlib.Core.Bool.{Bool, false}
+use mathlib.Core.Bool.{false}
 use mathlib.Core.List.{List}
 use native.Mathlib.Omega.{arith}
 use native.Mathlib.Nat.{mod-eq-of-lt, div-add-mod'}
@@ -18,7 +18,7 @@ use Rattle.calls.specs.Orders.{Window, startNumber}
 use Rattle.calls.specs.Reads.{sampleAt, windowOf, window}
 use Rattle.calls.proofs.WindowLaws.{sample-of}
 use Rattle.frame.specs.Call.{Call, progress, finish}
-use Rattle.frame.specs.Calls.{Start, Accepts, step, after, inForce}
+use Rattle.frame.specs.Calls.{Start, Accepts, after, inForce}
 use Rattle.frame.specs.PlainFrame.{Frame, numberAlone, reachedCount, unreached, frame0}
 use Rattle.frame.specs.PlainFrame.{frameProgress, frameFinish, frameStep}
 use Rattle.frame.specs.Demand3.{plain}

@@ -1,7 +1,7 @@
 -- The plain frame's own count and search are those of the marks.
 -- Assumes nothing.
 use Prim.Native.Nat.{ℕ, zero, suc, _+_, _*_, _/_, _%_, _<_}
-use mathlib.Core.Path.{_≡_, refl, sym, ap, ap₂, _∙_, subst}
+use mathlib.Core.Path.{_≡_, refl, sym, ap, ap₂, _∙_}
 use mathlib.Core.Bool.{Bool, true, false}
 use native.Mathlib.Omega.{arith}
 use native.Mathlib.Nat.{suc-mul, add-zero}
@@ -14,7 +14,7 @@ use Rattle.marks.specs.Marks.{oneIf, count, firstFrom, firstNot}
 use Rattle.marks.proofs.Marks.{count-add}
 use Rattle.calls.specs.declared.Answer.{Answer}
 use Rattle.calls.specs.Writes.{unmarkedAnswer}
-use Rattle.frame.specs.PlainFrame.{total, reachedCount, unreachedInRow, unreached, numberAlone}
+use Rattle.frame.specs.PlainFrame.{total, reachedCount, unreachedInRow, unreached}
 
 one-is : (t : Bool) → oneIf t ≡ pick t 1 0
 unfolding pick

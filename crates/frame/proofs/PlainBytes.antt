@@ -1,11 +1,11 @@
 -- The plain frame's own spelling and windows are the bytes of the calls.
 -- Assumes nothing.
 use Prim.Native.Nat.{ℕ, zero, suc, _+_, _-_, _*_, _/_, _%_, _^_, _≤_, _<_}
-use mathlib.Core.Path.{_≡_, refl, sym, ap, ap₂, _∙_, subst}
+use mathlib.Core.Path.{_≡_, refl, sym, ap, ap₂, _∙_}
 use mathlib.Core.Bool.{Bool, true, false}
 use mathlib.Core.List.{List, [], _∷_, _++_}
 use native.Mathlib.Omega.{arith}
-use native.Mathlib.Nat.{pow-suc, div-div-eq-div-mul, mul-comm, add-suc, add-zero, zero-add, mod-lt, div-add-mod', add-div-left, add-mod-left, suc-mul, mul-le-mul-right, div-eq-of-lt, mod-eq-of-lt}
+use native.Mathlib.Nat.{pow-suc, div-div-eq-div-mul, mul-comm, add-zero, zero-add, mod-lt, div-add-mod', add-div-left, add-mod-left, suc-mul, mul-le-mul-right, div-eq-of-lt, mod-eq-of-lt}
 use lib.Arith.{digits-lt, digits-div, digits-mod}
 use lib.ListN.{length, getD, take, drop, length-drop}
 use lib.Seq.{take-suc, getD-drop}
@@ -17,12 +17,11 @@ use Rattle.grid.specs.declared.Grid.{Grid}
 use Rattle.common.specs.Tests.{pick}
 use Rattle.grid.specs.Sizes.{sampleBytes, actualRows, actualColumns}
 use Rattle.grid.specs.Layout.{Sample}
-use Rattle.layout.specs.Bands.{Bands, bandCount, bandAt}
+use Rattle.layout.specs.Bands.{bandCount, bandAt}
 use Rattle.bits.specs.Values.{values}
 use Rattle.bits.proofs.Values.{values-ext, values-add}
-use Rattle.calls.specs.Answers.{Filled}
-use Rattle.calls.specs.Orders.{Window, windowNumber}
-use Rattle.calls.specs.Reads.{bytesOf, filled, windowOf}
+use Rattle.calls.specs.Orders.{Window}
+use Rattle.calls.specs.Reads.{bytesOf, filled}
 use Rattle.calls.specs.Writes.{dataAt}
 use Rattle.frame.specs.PlainFrame.{Frame, asNumber, numberInData, asBytes, eachFrom, eachOf, windowBand, frameBytes, frameWindowBy}
 

@@ -12,7 +12,6 @@ use lib.Arith.{digits-div}
 use lib.Dec.{eqb}
 use lib.ListN.{length, getD, take, drop, length-append, List·getD-append}
 use lib.Seq.{take-add, getD-append-add}
-use Rattle.common.specs.Lists.{tabulate}
 use Rattle.common.specs.Questions.{outcome}
 use Rattle.common.specs.Over.{over}
 use Rattle.common.specs.Tests.{pick}

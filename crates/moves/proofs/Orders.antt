@@ -1,7 +1,7 @@
 -- Laws of an order: each area and each piece is a part of the whole, and each sample is in one of them.
 -- Assumes nothing.
 use Prim.Native.Nat.{ℕ, zero, suc, _+_, _-_, _*_, _/_, _%_, _^_, min, _≤_, _<_}
-use mathlib.Core.Path.{_≡_, refl, sym, ap, ap₂, _∙_}
+use mathlib.Core.Path.{_≡_, refl, sym, ap, _∙_}
 use mathlib.Core.Bool.{Bool, true, false}
 use mathlib.Core.List.{List}
 use native.Mathlib.Omega.{arith}
@@ -10,7 +10,6 @@ use native.Mathlib.Nat.{zero-div, zero-mod, mod-lt, div-add-mod', div-lt-iff-lt-
 use borrow.Author.Tests.{lt-ltb, le-ltb}
 use lib.Dec.{ltb}
 use lib.Arith.{digits-lt, digits-div, digits-mod}
-use Rattle.common.specs.Tests.{pick}
 use Rattle.common.proofs.Tests.{pick-yes, pick-no}
 use Rattle.common.proofs.Arith.{part-start, part-lt, rest-lt, ceil-le, prod-le}
 use Rattle.layout.specs.declared.BlockLayout.{BlockLayout}

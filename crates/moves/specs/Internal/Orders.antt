@@ -1,4 +1,4 @@
--- The order in which samples of a part are moved: pieces of some bands, rows and columns.
+-- The order in which samples of a part are moved: areas of some rows and columns, and of these pieces of some bands.
 -- Assumes nothing.
 use Prim.Native.Nat.{ℕ, _+_, _-_, _*_, _/_, _%_, _^_, min, _≤_, _<_}
 use mathlib.Core.Path.{_≡_}

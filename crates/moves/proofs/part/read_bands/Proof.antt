@@ -1,11 +1,10 @@
 -- `moves::part::read_bands` meets its contract: the samples of k bands are read.
 -- Assumes nothing.
 use borrow.Author.Needs.{needs}
-use mathlib.Core.Path.{_≡_, refl, sym, ap, _∙_}
-use Prim.Native.Nat.{ℕ, _-_, _≤_, _<_}
+use mathlib.Core.Path.{_≡_, _∙_}
+use Prim.Native.Nat.{_-_, _≤_, _<_}
 use native.Mathlib.Omega.{arith}
 use denote.Ref.{now}
-use lib.ListN.{length}
 use Rattle.layout.specs.Bands.{bandsOf, bandCount}
 use Rattle.moves.specs.Internal.Parts.{answerTarget}
 use Rattle.moves.specs.Internal.Puts.{Puts}

@@ -1,6 +1,5 @@
 -- `moves::store::store_area` meets its contract: the samples of p parts of the bands are put.
 -- Assumes nothing.
-use borrow.Author.Needs.{needs}
 use mathlib.Core.Path.{_≡_}
 use Prim.Native.Nat.{_-_, _≤_, _<_}
 use native.Mathlib.Omega.{arith}
