@@ -9,7 +9,7 @@ use native.Mathlib.Numerals.{add-one}
 use native.Mathlib.Omega.{arith}
 use lib.ListN.{getD}
 use borrow.Author.Tests.{leb-true}
-use Rattle.common.specs.Tests.{every, within, pick, allBelow}
+use Rattle.common.specs.Tests.{every, some, within, pick, allBelow}
 
 pub true-false : {A : Type 0} → true ≡ false → A
 true-false e = absurd (let z : _≡_ {A = ℕ} 0 1 = cc in omega arith)
@@ -45,6 +45,11 @@ pub every-last : (b : Bool) → b ≡ every (b ∷ [])
 unfolding every
 every-last true = refl
 every-last false = refl
+
+pub some-last : (b : Bool) → b ≡ some (b ∷ [])
+unfolding some
+some-last true = refl
+some-last false = refl
 
 pub record Within (lo hi x : ℕ) : Type 0 where
   pub low : lo ≤ x

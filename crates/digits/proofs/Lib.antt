@@ -1,0 +1,2 @@
+-- The proofs of `digits`.
+pub mod Digits

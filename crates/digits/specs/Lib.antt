@@ -1,0 +1,2 @@
+-- The definitions of `digits`.
+pub mod Digits
