@@ -17,7 +17,7 @@ extern "C" {
 
 /* The version of this header. It belongs to an archive whose gezdunar_version() answers GEZDUNAR_VERSION. */
 #define GEZDUNAR_VERSION_MAJOR 0
-#define GEZDUNAR_VERSION_MINOR 2
+#define GEZDUNAR_VERSION_MINOR 3
 #define GEZDUNAR_VERSION_PATCH 0
 #define GEZDUNAR_VERSION (GEZDUNAR_VERSION_MAJOR * 1000000 + GEZDUNAR_VERSION_MINOR * 1000 + GEZDUNAR_VERSION_PATCH)
 
@@ -46,6 +46,8 @@ enum gezdunar_refusal {
     GEZDUNAR_PAD_CODE = 20,
     GEZDUNAR_TABLE_TOO_LARGE = 21,
     GEZDUNAR_OFFSET_COUNT = 22,
+    GEZDUNAR_SUBHEADER_PART = 23,
+    GEZDUNAR_NAMED_VALUE = 24,
     GEZDUNAR_NO_MODE = 99
 };
 
@@ -75,6 +77,8 @@ static inline const char *gezdunar_refusal_text(uint32_t number) {
     case GEZDUNAR_PAD_CODE: return "the pad code does not fit its length";
     case GEZDUNAR_TABLE_TOO_LARGE: return "the mask table would be too large";
     case GEZDUNAR_OFFSET_COUNT: return "an offset list has another length than its records";
+    case GEZDUNAR_SUBHEADER_PART: return "a part of the subheader has another length, or a number that is not all digits";
+    case GEZDUNAR_NAMED_VALUE: return "PVTYPE, PJUST, IC or IMODE has no named value, or ABPP is above 99";
     case GEZDUNAR_NO_MODE: return "the mode is none of B, P, R and S";
     default: return "refused with a number that has no name here";
     }
@@ -94,6 +98,21 @@ struct gezdunar_grid {
     uint32_t nbpr;
     uint32_t nbpc;
 };
+
+/* The fields of three parts of an image subheader: NROWS to PJUST (38 bytes), IC (2), IMODE to NBPP (19). pvtype is
+   "INT", "SI ", "R  ", "C  " or "B  ", pjust 'R' or 'L', ic "NC" or "NM"; irep and icat are carried unread. No array
+   ends with a zero byte. The grid has nppbh and nppbv as they are meant, not as a zero field. */
+struct gezdunar_subheader {
+    uint8_t pvtype[3];
+    uint8_t irep[8];
+    uint8_t icat[8];
+    uint32_t abpp;
+    uint8_t pjust;
+    uint8_t ic[2];
+    struct gezdunar_grid grid;
+};
+
+struct gezdunar_read_subheader { uint32_t number; struct gezdunar_subheader subheader; };
 
 /* Sizes of a grid: bytes of a sample in lent data, of a band of a block, of a block (in S not in one part), of the
    image; how many blocks the picture has, and how many words their marks take. */
@@ -146,6 +165,19 @@ uint32_t gezdunar_grid_check(struct gezdunar_grid grid);
 /* The sizes of an accepted grid; zeros beside a refusal.
    Numbers: 0 to 4, 99. */
 struct gezdunar_sizes gezdunar_grid_sizes(struct gezdunar_grid grid);
+
+/* Reads three parts of an image subheader, for a picture of so many bands; the parts do not hold that count. A zero
+   NPPBH with NBPR 1 is read as NCOLS, a zero NPPBV with NBPC 1 as NROWS. Beside a refusal all of subheader is zero.
+   Lent: the parts, of exactly 38, 2 and 19 bytes. Numbers: 0 to 4, 23, 24. */
+struct gezdunar_read_subheader gezdunar_subheader_read(
+    const uint8_t *first, size_t first_length, const uint8_t *second, size_t second_length, const uint8_t *third,
+    size_t third_length, uint32_t bands);
+
+/* Writes the three parts: numbers in digits with leading zeros, NPPBH and NPPBV as zeros where they are above 8,192.
+   Written: the front of first, second and third, 38, 2 and 19 bytes. Numbers: 0 to 4, 9, 24. */
+uint32_t gezdunar_subheader_write(
+    struct gezdunar_subheader subheader, uint8_t *first, size_t first_length, uint8_t *second, size_t second_length,
+    uint8_t *third, size_t third_length);
 
 /* Reads a block: the bands asked for, in the order of the list, band by band, row by row, each sample in its
    big-endian bytes. With all the list is not looked at; an empty list gives 0 bands and 0 bytes.

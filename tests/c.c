@@ -49,15 +49,15 @@ static bool refused(struct gezdunar_shape s, uint32_t number) {
 static bool pair(const uint8_t *out, uint8_t first, uint8_t second) { return out[0] == first && out[1] == second; }
 
 static void version_and_texts(void) {
-    check("version 0.2.0", GEZDUNAR_VERSION == 2000);
+    check("version 0.3.0", GEZDUNAR_VERSION == 3000);
     check("the header and the archive belong together", gezdunar_version() == GEZDUNAR_VERSION);
     check("accepted in words", strcmp(gezdunar_refusal_text(GEZDUNAR_ACCEPTED), "accepted") == 0);
     check("7 in words", strcmp(gezdunar_refusal_text(7), "the image ends before the block does") == 0);
     check("99 in words", strcmp(gezdunar_refusal_text(GEZDUNAR_NO_MODE), "the mode is none of B, P, R and S") == 0);
-    const char *unknown = gezdunar_refusal_text(23);
+    const char *unknown = gezdunar_refusal_text(98);
     check("an unknown number in words", strcmp(unknown, "refused with a number that has no name here") == 0);
     for (uint32_t n = 0; n < 100; n++) {
-        bool is_named = n <= 22 || n == 99;
+        bool is_named = n <= 24 || n == 99;
         check("every number has words", is_named == (strcmp(gezdunar_refusal_text(n), unknown) != 0));
     }
 }
@@ -78,8 +78,106 @@ static void grids(void) {
     check("no mode, before question 1", gezdunar_grid_check(grid) == GEZDUNAR_NO_MODE);
     check("limits", gezdunar_grid_check(gezdunar_grid(7, 10, 3, 12, 'P', 0, 4)) == GEZDUNAR_LIMITS);
     check("width", gezdunar_grid_check(gezdunar_grid(7, 10, 3, 17, 'P', 2, 4)) == GEZDUNAR_WIDTH);
+    check("one block of any width", gezdunar_grid_check(gezdunar_grid(2, 9000, 1, 8, 'B', 2, 9000)) == 0);
+    check("not the picture's width", gezdunar_grid_check(gezdunar_grid(9000, 2, 1, 8, 'B', 9000, 9000)) == 1);
     grid = gezdunar_grid(UINT32_MAX, UINT32_MAX, 1, 8, 'B', 1, 2);
     check("the largest sides", grid.nbpr == 0x80000000 && grid.nbpc == UINT32_MAX);
+}
+
+/* The fields of the parts below. */
+static struct gezdunar_subheader fields(void) {
+    struct gezdunar_subheader s = {.abpp = 11, .pjust = 'L', .grid = gezdunar_grid(203, 317, 5, 12, 'P', 64, 48)};
+    memcpy(s.pvtype, "SI ", 3);
+    memcpy(s.irep, "MULTI   ", 8);
+    memcpy(s.icat, "\xFF\x00S     ", 8);
+    memcpy(s.ic, "NM", 2);
+    return s;
+}
+
+static const char FIRST[] = "0000020300000317SI MULTI   \xFF\x00S     11L";
+static const char SECOND[] = "NM", THIRD[] = "P000700040048006412";
+
+static bool same_fields(struct gezdunar_subheader a, struct gezdunar_subheader b) {
+    return memcmp(a.pvtype, b.pvtype, 3) == 0 && memcmp(a.irep, b.irep, 8) == 0 && memcmp(a.icat, b.icat, 8) == 0
+        && a.abpp == b.abpp && a.pjust == b.pjust && memcmp(a.ic, b.ic, 2) == 0 && same_grid(a.grid, b.grid);
+}
+
+/* Reads parts in buffers of exact size. Beside a refusal every field must be zero. */
+static struct gezdunar_read_subheader read_parts(const char *first, size_t n, const char *second, const char *third) {
+    const uint8_t *a = copy_of(first, n), *b = copy_of(second, 2), *c = copy_of(third, 19);
+    struct gezdunar_read_subheader r = gezdunar_subheader_read(a, n, b, 2, c, 19, 5);
+    check("zeros beside a refusal", r.number == 0 || same_fields(r.subheader, (struct gezdunar_subheader){0}));
+    return r;
+}
+
+/* The number of parts whose PVTYPE is this text. */
+static uint32_t read_pvtype(const char *text) {
+    char first[39];
+    memcpy(first, FIRST, 39);
+    memcpy(first + 16, text, 3);
+    return read_parts(first, 38, SECOND, THIRD).number;
+}
+
+static void pvtypes_read(void) {
+    static const char *const named[] = {"INT", "SI ", "R  ", "C  ", "B  "};
+    static const char *const others[] = {" SI", "si ", "Si ", "SI\0", "int", " R ", "  C", "B B", "   ", "\0\0\0"};
+    for (int i = 0; i < 5; i++) check("named PVTYPE", read_pvtype(named[i]) == 0);
+    for (int i = 0; i < 10; i++) check("no named PVTYPE", read_pvtype(others[i]) == GEZDUNAR_NAMED_VALUE);
+}
+
+static void subheaders_read(void) {
+    struct gezdunar_read_subheader r = read_parts(FIRST, 38, SECOND, THIRD);
+    check("read a subheader", r.number == 0 && same_fields(r.subheader, fields()));
+    check("a short part", read_parts(FIRST, 37, "XX", THIRD).number == GEZDUNAR_SUBHEADER_PART);
+    check("no digits", read_parts(FIRST, 38, "XX", "X0007000400480064 8").number == GEZDUNAR_SUBHEADER_PART);
+    check("no named IC", read_parts(FIRST, 38, "C8", "P000000000000000000").number == GEZDUNAR_NAMED_VALUE);
+    check("IC in small letters", read_parts(FIRST, 38, "nm", THIRD).number == GEZDUNAR_NAMED_VALUE);
+    check("no named IMODE", read_parts(FIRST, 38, SECOND, "Q000700040048006412").number == GEZDUNAR_NAMED_VALUE);
+    check("limits", read_parts(FIRST, 38, SECOND, "P000700040000006417").number == GEZDUNAR_LIMITS);
+    check("width", read_parts(FIRST, 38, SECOND, "P000700040048006417").number == GEZDUNAR_WIDTH);
+    check("block counts", read_parts(FIRST, 38, SECOND, "P000700030048006412").number == GEZDUNAR_BLOCK_COUNTS);
+    r = read_parts(FIRST, 38, SECOND, "P000100010000000012");
+    check("zero sides", r.number == 0 && r.subheader.grid.nppbh == 317 && r.subheader.grid.nppbv == 203);
+    check("null: read a subheader", gezdunar_subheader_read(NULL, 0, NULL, 0, NULL, 0, 5).number == 23);
+}
+
+/* Are these the first n bytes of a part, and after them 0xAA? */
+static bool holds(const uint8_t *out, size_t length, const char *part, size_t n) {
+    bool so = length >= n && memcmp(out, part, n) == 0;
+    for (size_t i = n; i < length; i++) so = so && out[i] == 0xAA;
+    return so;
+}
+
+/* The number of a write into outputs of i, j and k bytes; where it is refused they must be kept. */
+static uint32_t write_parts(struct gezdunar_subheader s, size_t i, size_t j, size_t k) {
+    uint8_t before[64];
+    memset(before, 0xAA, 64);
+    uint8_t *a = copy_of(before, i), *b = copy_of(before, j), *c = copy_of(before, k);
+    uint32_t number = gezdunar_subheader_write(s, a, i, b, j, c, k);
+    bool written = holds(a, i, FIRST, 38) && holds(b, j, SECOND, 2) && holds(c, k, THIRD, 19);
+    bool kept = holds(a, i, FIRST, 0) && holds(b, j, SECOND, 0) && holds(c, k, THIRD, 0);
+    check("all or nothing of a subheader is written", number == 0 ? written : kept);
+    return number;
+}
+
+static void subheaders_written(void) {
+    struct gezdunar_subheader s = fields();
+    check("write a subheader", write_parts(s, 38, 2, 19) == 0 && write_parts(s, 40, 9, 20) == 0);
+    check("a short output", write_parts(s, 37, 2, 19) == 9 && write_parts(s, 38, 1, 19) == 9);
+    check("another short output", write_parts(s, 38, 2, 18) == 9 && write_parts(s, 0, 0, 0) == 9);
+    check("null: write a subheader", gezdunar_subheader_write(s, NULL, 0, NULL, 0, NULL, 0) == 9);
+    s.grid.nbpp = 17;
+    check("width before output", write_parts(s, 0, 0, 0) == GEZDUNAR_WIDTH);
+    s.grid.imode = 'Q';
+    check("24 for a mode, not 99", write_parts(s, 38, 2, 19) == GEZDUNAR_NAMED_VALUE);
+    s = fields(), s.abpp = 100;
+    check("ABPP above 99", write_parts(s, 38, 2, 19) == GEZDUNAR_NAMED_VALUE);
+    s = fields(), s.pjust = 'r';
+    check("PJUST", write_parts(s, 38, 2, 19) == GEZDUNAR_NAMED_VALUE);
+    s = fields(), s.ic[1] = 0;
+    check("IC", write_parts(s, 38, 2, 19) == GEZDUNAR_NAMED_VALUE);
+    s = fields(), s.pvtype[2] = 0;
+    check("PVTYPE", write_parts(s, 38, 2, 19) == GEZDUNAR_NAMED_VALUE);
 }
 
 /* Block (1,1) in each mode. */
@@ -265,6 +363,9 @@ static void null_tables_with_length_0(void) {
 int main(void) {
     version_and_texts();
     grids();
+    subheaders_read();
+    pvtypes_read();
+    subheaders_written();
     figures_a_to_d();
     figures_e_to_j();
     reads();

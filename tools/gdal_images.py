@@ -5,7 +5,8 @@
 
 Needs gdal_translate (Debian's gdal-bin; the images that are kept came from GDAL 3.6.2). Each image has 13 rows, 19
 columns, 2 bands, blocks of 4 rows and 8 columns, IC NC and IMODE B; the samples are seeded random numbers of 8, 16, 32
-and 64 bits. The samples that are printed are those that GDAL reads out of its own images, as raw files.
+and 64 bits. The samples that are printed are those that GDAL reads out of its own images, as raw files. The image
+wide.ntf and its lines, the last ones of stdout, come from tools/wide_image.py.
 """
 import struct
 import subprocess
@@ -82,4 +83,5 @@ def main():
             show_image(bits, read_image(bits, Path(name), images / f"{bits}.ntf"))
 
 
-main()
+if __name__ == "__main__":
+    main()

@@ -3,6 +3,38 @@
 
 use crate::{Bands, Grid, ImageDataMask, InterleaveMode, Window};
 
+/// The grid of a subheader. IMODE is a byte: beside a refusal it is 0, which is no mode.
+#[repr(C)]
+pub(crate) struct SubheaderGrid {
+    pub nrows: u32,
+    pub ncols: u32,
+    pub bands: u32,
+    pub nbpp: u32,
+    pub imode: u8,
+    pub nppbh: u32,
+    pub nppbv: u32,
+    pub nbpr: u32,
+    pub nbpc: u32,
+}
+
+/// Fields of a subheader. The named values are bytes: beside a refusal they are 0.
+#[repr(C)]
+pub(crate) struct Subheader {
+    pub pvtype: [u8; 3],
+    pub irep: [u8; 8],
+    pub icat: [u8; 8],
+    pub abpp: u32,
+    pub pjust: u8,
+    pub ic: [u8; 2],
+    pub grid: SubheaderGrid,
+}
+
+#[repr(C)]
+pub(crate) struct ReadSubheader {
+    pub number: u32,
+    pub subheader: Subheader,
+}
+
 /// Sizes of a grid.
 #[repr(C)]
 pub(crate) struct Sizes {
@@ -86,6 +118,16 @@ extern "C" {
     fn gezdunar_grid_check(grid: Grid) -> u32;
 
     fn gezdunar_grid_sizes(grid: Grid) -> Sizes;
+
+    fn gezdunar_subheader_read(
+        first: *const u8, first_length: usize, second: *const u8, second_length: usize,
+        third: *const u8, third_length: usize, bands: u32,
+    ) -> ReadSubheader;
+
+    fn gezdunar_subheader_write(
+        subheader: Subheader, first: *mut u8, first_length: usize, second: *mut u8, second_length: usize,
+        third: *mut u8, third_length: usize,
+    ) -> u32;
 
     fn gezdunar_decode_block(
         image: *const u8, image_length: usize, grid: Grid,
@@ -198,6 +240,36 @@ pub(crate) fn grid_sizes(grid: &Grid) -> Sizes {
     unsafe { gezdunar_grid_sizes(*grid) }
 }
 
+pub(crate) fn subheader_read(first: &[u8], second: &[u8], third: &[u8], bands: u32) -> ReadSubheader {
+    // SAFETY: borrowed slices.
+    unsafe {
+        gezdunar_subheader_read(
+            first.as_ptr(),
+            first.len(),
+            second.as_ptr(),
+            second.len(),
+            third.as_ptr(),
+            third.len(),
+            bands,
+        )
+    }
+}
+
+pub(crate) fn subheader_write(subheader: Subheader, first: &mut [u8], second: &mut [u8], third: &mut [u8]) -> u32 {
+    // SAFETY: borrowed slices.
+    unsafe {
+        gezdunar_subheader_write(
+            subheader,
+            first.as_mut_ptr(),
+            first.len(),
+            second.as_mut_ptr(),
+            second.len(),
+            third.as_mut_ptr(),
+            third.len(),
+        )
+    }
+}
+
 pub(crate) fn decode_block(
     image: &[u8],
     grid: &Grid,
@@ -293,15 +365,7 @@ pub(crate) fn encode_block(
 pub(crate) fn skip_block(image: &[u8], marks: &mut [u64], grid: &Grid, block_row: u32, block_col: u32) -> Answer {
     // SAFETY: borrowed slices.
     unsafe {
-        gezdunar_skip_block(
-            image.as_ptr(),
-            image.len(),
-            marks.as_mut_ptr(),
-            marks.len(),
-            *grid,
-            block_row,
-            block_col,
-        )
+        gezdunar_skip_block(image.as_ptr(), image.len(), marks.as_mut_ptr(), marks.len(), *grid, block_row, block_col)
     }
 }
 

@@ -4,8 +4,8 @@ use crate::boundary;
 use crate::refusal::accepted;
 use crate::{InterleaveMode, Refusal};
 
-/// A picture in blocks. The fields have the names of MIL-STD-2500C, but for `bands`, its NBANDS or XBANDS. It crosses the
-/// C boundary as it is: the header's struct `gezdunar_grid`.
+/// A picture in blocks. The fields have the names of MIL-STD-2500C, but for `bands`, its NBANDS or XBANDS. It crosses
+/// the C boundary as it is: the header's struct `gezdunar_grid`.
 #[repr(C)]
 #[derive(Debug, Clone, Copy, PartialEq, Eq, Hash)]
 pub struct Grid {
@@ -19,9 +19,9 @@ pub struct Grid {
     pub nbpp: u32,
     /// The order of the samples.
     pub imode: InterleaveMode,
-    /// Columns of a block.
+    /// Columns of a block: at most 8,192, or all of the picture.
     pub nppbh: u32,
-    /// Rows of a block.
+    /// Rows of a block: at most 8,192, or all of the picture.
     pub nppbv: u32,
     /// Blocks across.
     pub nbpr: u32,

@@ -1,9 +1,10 @@
 //! Uncompressed NITF 2.1 image blocks: safe calls over the proved library that `rt staticlib gezdunar` builds.
 //!
-//! A picture is described by a [`Grid`]. A picture's blocks are written into an image with a [`Frame`], or into lent
-//! buffers with [`start`], [`encode_block`], [`skip_block`], [`progress`] and [`finalize`]. They are read with
-//! [`decode_block`], [`whole_block`] and [`read_window`]. Samples outside the image stand band by band, row by row,
-//! each in its big-endian bytes.
+//! A picture is described by a [`Grid`]. [`ImageSubheader`] reads it from three parts of an image subheader, and writes
+//! it there. A picture's blocks are written into an image with a [`Frame`], or into lent buffers with [`start`],
+//! [`encode_block`], [`skip_block`], [`progress`] and [`finalize`]. They are read with [`decode_block`],
+//! [`whole_block`] and [`read_window`]. Samples outside the image stand band by band, row by row, each in its
+//! big-endian bytes.
 //!
 //! A call that fills a lent output has a second form, named with `_vec` at its end, that returns a vector of exact size
 //! instead. Every call asks its questions before it writes: a refused one answers a [`Refusal`] and writes nothing. A
@@ -38,9 +39,11 @@ mod frame;
 mod grid;
 mod mask;
 mod mode;
+mod named;
 mod reads;
 mod refusal;
 mod reorderings;
+mod subheader;
 mod vectors;
 mod writes;
 
@@ -52,10 +55,12 @@ pub use mask::{
     ImageDataMask, Parsed, EMPTY_BLOCK_OFFSET,
 };
 pub use mode::InterleaveMode;
+pub use named::{ImageCompression, PixelJustification, PixelValueType};
 pub use reads::{decode_block, decode_block_vec, read_window, read_window_vec, whole_block, Window};
 pub use refusal::Refusal;
 pub use reorderings::{
     from_band_sequential, from_band_sequential_vec, fused_bip_to_bsq, fused_bip_to_bsq_vec, to_band_sequential,
     to_band_sequential_vec, Reordered,
 };
+pub use subheader::{ImageSubheader, SubheaderParts};
 pub use writes::{encode_block, finalize, progress, skip_block, start};

@@ -30,7 +30,7 @@ pub enum Refusal {
     ImageEnds,
     /// 8: a band is asked for that the picture does not have.
     NoSuchBand,
-    /// 9: the output is too short; in a `_vec` form, there is no memory for it.
+    /// 9: an output is too short; in a `_vec` form, there is no memory for it.
     OutputTooShort,
     /// 10: the window is empty or outside the picture.
     WindowOutsidePicture,
@@ -63,6 +63,10 @@ pub enum Refusal {
     TableTooLarge,
     /// 22: an offset list has another length than its records.
     OffsetCount,
+    /// 23: a part of the subheader has another length, or one of its numbers is not all digits.
+    SubheaderPart,
+    /// 24: PVTYPE, PJUST, IC or IMODE has no named value, or an ABPP to be written is above 99.
+    NamedValue,
     /// 99: a byte or a text that is no mode.
     NoMode,
     /// A number that has no name here.
@@ -76,7 +80,7 @@ impl Refusal {
     /// use gezdunar::Refusal;
     /// assert_eq!(Refusal::from_number(0), None);
     /// assert_eq!(Refusal::from_number(7), Some(Refusal::ImageEnds));
-    /// assert_eq!(Refusal::from_number(23), Some(Refusal::Unknown(23)));
+    /// assert_eq!(Refusal::from_number(98), Some(Refusal::Unknown(98)));
     /// ```
     pub fn from_number(number: u32) -> Option<Refusal> {
         Some(match number {
@@ -103,6 +107,8 @@ impl Refusal {
             20 => Refusal::PadCode,
             21 => Refusal::TableTooLarge,
             22 => Refusal::OffsetCount,
+            23 => Refusal::SubheaderPart,
+            24 => Refusal::NamedValue,
             99 => Refusal::NoMode,
             other => Refusal::Unknown(other),
         })
@@ -137,6 +143,8 @@ impl Refusal {
             Refusal::PadCode => 20,
             Refusal::TableTooLarge => 21,
             Refusal::OffsetCount => 22,
+            Refusal::SubheaderPart => 23,
+            Refusal::NamedValue => 24,
             Refusal::NoMode => 99,
             Refusal::Unknown(number) => number,
         }
@@ -167,6 +175,8 @@ impl Refusal {
             Refusal::PadCode => "the pad code does not fit its length",
             Refusal::TableTooLarge => "the mask table would be too large",
             Refusal::OffsetCount => "an offset list has another length than its records",
+            Refusal::SubheaderPart => "a part of the subheader has another length, or a number that is not all digits",
+            Refusal::NamedValue => "PVTYPE, PJUST, IC or IMODE has no named value, or ABPP is above 99",
             Refusal::NoMode => "the mode is none of B, P, R and S",
             Refusal::Unknown(_) => "refused with a number that has no name here",
         }

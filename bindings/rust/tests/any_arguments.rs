@@ -1,15 +1,15 @@
 //! Every call on arguments of any kind: none panics, and a refused one leaves every lent byte as it was. Whole blocks,
-//! progress, finish, parse and lookup answer as expected.
+//! progress, finish, parse, lookup and the reader of a subheader answer as expected.
 
 mod common;
 
-use common::{exact, expected};
+use common::{exact, expected, subheader};
 use gezdunar::{
     decode_block, decode_block_vec, encode_block, finalize, from_band_sequential, from_band_sequential_vec,
     fused_bip_to_bsq, fused_bip_to_bsq_vec, get_block_offset, has_block, mask_from_marks, mask_from_marks_vec,
     mask_parse, mask_write, mask_write_vec, progress, read_window, read_window_vec, skip_block, start,
-    to_band_sequential, to_band_sequential_vec, whole_block, Bands, Frame, Grid, ImageDataMask, InterleaveMode,
-    Refusal, Shape, Window,
+    to_band_sequential, to_band_sequential_vec, whole_block, Bands, Frame, Grid, ImageDataMask, ImageSubheader,
+    InterleaveMode, Refusal, Shape, Window,
 };
 
 const NUMBERS: [u32; 14] = [0, 1, 2, 3, 4, 7, 8, 33, 64, 8_193, 99_999, 100_000_000, 0x8000_0000, u32::MAX];
@@ -79,6 +79,27 @@ impl Random {
             header.copy_from_slice(&[0, 0, 0, 9, 0, block, 0, pad, 0, bits]);
         }
         table
+    }
+
+    /// A part of a subheader: once in eight times with a byte changed, once in thirty with another length.
+    fn part(&mut self, bytes: &[u8]) -> Box<[u8]> {
+        let mut part = bytes.to_vec();
+        if self.below(8) == 0 {
+            let other = [b' ', b'0', b'0', b'1', b'2', b'9', b'B', b'R', 0, 255][self.below(10)];
+            part[self.below(bytes.len())] = other;
+        }
+        if self.below(30) == 0 {
+            part.resize(self.below(45), b'0');
+        }
+        part.into_boxed_slice()
+    }
+
+    /// A grid in which a block may be as wide or as high as the picture, at any size.
+    fn grid_of_any_size(&mut self) -> Grid {
+        let sides = [1, 5, 8_192, 8_193, 9_000, 65_536, 99_999_999];
+        let [nrows, ncols] = [0; 2].map(|_| sides[self.below(sides.len())]);
+        let [nppbh, nppbv] = [ncols, nrows].map(|side| [side, side, side / 2, 3][self.below(4)]);
+        Grid::new(nrows, ncols, 1 + self.below(3) as u32, [1, 8, 12, 64][self.below(4)], self.mode(), nppbh, nppbv)
     }
 
     fn list(&mut self) -> Box<[u32]> {
@@ -230,6 +251,39 @@ fn tables() {
         (accepted, looked_up) = (accepted + u32::from(parsed), looked_up + u32::from(lookup));
     }
     assert!(accepted > 500 && looked_up > 100, "{accepted} parsed, {looked_up} looked up");
+}
+
+/// Writes into outputs of some lengths and compares with what is expected: the answer, and whether they are kept. Are
+/// they written?
+fn written(random: &mut Random, fields: &ImageSubheader) -> bool {
+    let [mut first, mut second, mut third] = [38, 2, 19].map(|n| exact(&vec![7; n - 1 + random.below(12)]));
+    let before = [first.clone(), second.clone(), third.clone()];
+    let expected = match fields.grid.check() {
+        _ if fields.abpp > 99 => Err(Refusal::NamedValue),
+        Ok(()) if first.len() < 38 || second.len() < 2 || third.len() < 19 => Err(Refusal::OutputTooShort),
+        answer => answer,
+    };
+    assert_eq!(fields.write(&mut first, &mut second, &mut third), expected, "{fields:?}");
+    assert_eq!([first, second, third] == before, expected.is_err(), "{fields:?}");
+    expected.is_ok()
+}
+
+#[test]
+fn subheaders() {
+    let mut random = Random(6);
+    let (mut accepted, mut read) = (0, 0);
+    for _ in 0..6_000 {
+        let grid = [random.grid(), random.grid_of_any_size()][random.below(2)];
+        let fields = ImageSubheader { abpp: [0, 9, 99, 99, 100][random.below(5)], ..subheader(grid) };
+        accepted += u32::from(written(&mut random, &fields));
+        let Ok((first, second, third)) = fields.to_parts() else { continue };
+        let [first, second, third] = [random.part(&first), random.part(&second), random.part(&third)];
+        let bands = [grid.bands, grid.bands, random.number()][random.below(3)];
+        let answer = ImageSubheader::read(&first, &second, &third, bands);
+        assert_eq!(answer, expected::subheader_read(&first, &second, &third, bands), "{first:?}{second:?}{third:?}");
+        read += u32::from(answer.is_ok());
+    }
+    assert!(accepted > 500 && read > 500, "{accepted} written, {read} read");
 }
 
 #[test]

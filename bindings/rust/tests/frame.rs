@@ -49,6 +49,16 @@ fn pictures_come_back_in_every_mode_at_every_width() {
 }
 
 #[test]
+fn pictures_come_back_in_blocks_above_8_192() {
+    for imode in InterleaveMode::ALL {
+        for nbpp in [8, 12] {
+            read_again(&written(Grid::new(5, 8_193, 2, nbpp, imode, 8_193, 2)), &[1, 0]);
+            read_again(&written(Grid::new(8_193, 7, 1, nbpp, imode, 4, 8_193)), &[0]);
+        }
+    }
+}
+
+#[test]
 fn pictures_come_back_at_other_block_sides() {
     for imode in InterleaveMode::ALL {
         for (bands, nppbh, nppbv) in [(1, 1, 1), (2, 7, 5), (1, 8, 6), (2, 4, 1), (3, 1, 3)] {

@@ -5,6 +5,10 @@ mod common;
 use common::{refused_grids, small, WIDTHS};
 use gezdunar::{Grid, InterleaveMode, Refusal, Sizes};
 
+/// One sample of one bit, in one block.
+const ONE: Grid =
+    Grid { nrows: 1, ncols: 1, bands: 1, nbpp: 1, imode: InterleaveMode::B, nppbh: 1, nppbv: 1, nbpr: 1, nbpc: 1 };
+
 fn number(grid: Grid) -> u32 {
     grid.check().map_or_else(Refusal::number, |()| 0)
 }
@@ -42,6 +46,29 @@ fn question_1() {
 }
 
 #[test]
+fn a_block_side_above_8_192_is_the_pictures() {
+    for side in [8_193, 9_000, 65_536, 99_999_999] {
+        let (wide, tall) = (Grid { ncols: side, ..ONE }, Grid { nrows: side, ..ONE });
+        assert_eq!(number(Grid { nppbh: side, ..wide }), 0, "{side}");
+        assert_eq!(number(Grid { nppbv: side, ..tall }), 0, "{side}");
+        // One column or row more or less, and the other side of the picture.
+        assert_eq!(number(Grid { nppbh: side + 1, ..wide }), 1, "{side}");
+        assert_eq!(number(Grid { nppbh: side, ncols: side - 1, ..wide }), 1, "{side}");
+        assert_eq!(number(Grid { nppbv: side + 1, ..tall }), 1, "{side}");
+        assert_eq!(number(Grid { nppbv: side, nrows: side - 1, ..tall }), 1, "{side}");
+        assert_eq!(number(Grid { nppbh: side, ..tall }), 1, "{side}");
+        assert_eq!(number(Grid { nppbv: side, ..wide }), 1, "{side}");
+        // It is one block.
+        assert_eq!(number(Grid { nppbh: side, nbpr: 2, ..wide }), 3, "{side}");
+        assert_eq!(number(Grid { nppbv: side, nbpc: 2, ..tall }), 3, "{side}");
+    }
+    assert_eq!(number(Grid { ncols: 100_000_000, nppbh: 100_000_000, ..ONE }), 1);
+    for grid in [Grid { nppbh: 0, ..ONE }, Grid { nppbv: 0, ..ONE }, Grid { nppbh: 0, ncols: 0, ..ONE }] {
+        assert_eq!(number(grid), 1);
+    }
+}
+
+#[test]
 fn question_2_at_every_width() {
     for nbpp in (0..=70).chain([255, 256, 264, u32::MAX]) {
         let expected = if WIDTHS.contains(&nbpp) { 0 } else { 2 };
@@ -64,15 +91,28 @@ fn question_3() {
 
 #[test]
 fn question_4() {
-    // 4,294,967,294 is 2 times a prime that is larger than every count and every band of a block.
-    let largest = Grid::new(1_143, 3_253, 9_241, 1, InterleaveMode::B, 3_253, 1_143);
-    assert_eq!(largest.sizes().map(|sizes| (sizes.band_bytes, sizes.image_bytes)), Ok((464_773, 4_294_967_293)));
+    // One block of 34,359,738,345 bits, and one of 34,359,738,360.
+    let largest = Grid::new(286_515, 119_923, 1, 1, InterleaveMode::B, 119_923, 286_515);
+    assert_eq!(largest.sizes().map(|sizes| (sizes.blocks, sizes.image_bytes)), Ok((1, 4_294_967_294)));
+    assert_eq!(number(Grid::new(65_535, 524_296, 1, 1, InterleaveMode::B, 524_296, 65_535)), 4);
+    let bands = Grid::new(1_143, 3_253, 9_241, 1, InterleaveMode::B, 3_253, 1_143);
+    assert_eq!(bands.sizes().map(|sizes| (sizes.band_bytes, sizes.image_bytes)), Ok((464_773, 4_294_967_293)));
     // 4,294,967,295 bytes: 65,535 bands of 65,537 bytes, and 15 by 4,369 blocks of 65,537 bands of one byte.
     let bands = Grid::new(191, 2_745, 65_535, 1, InterleaveMode::B, 2_745, 191);
     let fewer = Grid { bands: 65_534, ..bands }.sizes();
     assert_eq!((number(bands), fewer.map(|sizes| sizes.image_bytes)), (4, Ok(65_537 * 65_534)));
     assert_eq!(number(Grid::new(15, 4_369, 65_537, 8, InterleaveMode::S, 1, 1)), 4);
     assert_eq!(number(Grid::new(15, 4_369, 65_536, 8, InterleaveMode::S, 1, 1)), 0);
+}
+
+#[test]
+fn question_4_beyond_64_bits() {
+    let side = 67_108_864;
+    // 2 to the power of 67 bits, and so of 64 bytes.
+    assert_eq!(number(Grid::new(side, side, 512, 64, InterleaveMode::B, side, side)), 4);
+    assert_eq!(number(Grid::new(99_999_999, 99_999_999, 99_999, 64, InterleaveMode::S, 99_999_999, 99_999_999)), 4);
+    let square = Grid::new(65_536, 65_536, 1, 1, InterleaveMode::P, 65_536, 65_536);
+    assert_eq!(square.sizes().map(|sizes| sizes.image_bytes), Ok(536_870_912));
 }
 
 #[test]

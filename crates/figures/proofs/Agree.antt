@@ -8,7 +8,7 @@ use Rattle.common.specs.Over.{over}
 use Rattle.common.specs.Tests.{every, some, within, pick, allBelow}
 use Rattle.grid.specs.Widths.{widthTaken}
 use Rattle.grid.specs.Sizes.{bandBytes, actualRows, actualColumns}
-use Rattle.grid.specs.Check.{q1, q3, q4, q6, q11}
+use Rattle.grid.specs.Check.{blockSide, q1, q3, q4, q6, q11}
 use Rattle.grid.specs.Layout.{place, blockEnd}
 use Rattle.layout.specs.Bands.{bandCount, bandAt, q8, q9}
 use Rattle.bits.specs.Values.{values}
@@ -29,5 +29,5 @@ use Rattle.figures.specs.Instance.{flat, byCalls, byPlainFrame}
 use Rattle.figures.specs.Figures.{Figure, figures, corner, readOf, laid, imageWith, runOf, writeOver, maskOf}
 
 pub agree : map (λ (f : Figure). f .found) figures ≡ map (λ (f : Figure). f .paper) figures
-unfolding figures corner imageWith laid place bandBytes actualRows actualColumns putBits setBit withBit readOf blockRead blockNumber bytesOf values beBytes sampleAt bitsAt bitAt over tabulate q1 q3 q4 q6 q8 blockEnd bandCount bandAt allBelow widthTaken every some within pick maskOf toBytes maskWriteNumber isRecordLength records lookupRecord filledBlock tableSize blockRecord tableBytes runOf writeOver start startNumber write writeNumber skip skipNumber progress progressNumber finish window windowOf windowNumber q7Window q10 crosses pictureAt iter q11 q12 q13 q14 dataAt putBlock clearRuns storeBy marked mark count firstFrom beAt q9 outcome step callAll started frame0 asNumber numberInData inBlock written reach frameWrite frameSkip total reachedCount frameProgress unreachedInRow unreached frameFinish frameStep frameCallAll asBytes eachFrom eachOf windowBand frameBytes frameWindowBy frameWindow flat byCalls byPlainFrame
+unfolding figures corner imageWith laid place bandBytes actualRows actualColumns putBits setBit withBit readOf blockRead blockNumber bytesOf values beBytes sampleAt bitsAt bitAt over tabulate blockSide q1 q3 q4 q6 q8 blockEnd bandCount bandAt allBelow widthTaken every some within pick maskOf toBytes maskWriteNumber isRecordLength records lookupRecord filledBlock tableSize blockRecord tableBytes runOf writeOver start startNumber write writeNumber skip skipNumber progress progressNumber finish window windowOf windowNumber q7Window q10 crosses pictureAt iter q11 q12 q13 q14 dataAt putBlock clearRuns storeBy marked mark count firstFrom beAt q9 outcome step callAll started frame0 asNumber numberInData inBlock written reach frameWrite frameSkip total reachedCount frameProgress unreachedInRow unreached frameFinish frameStep frameCallAll asBytes eachFrom eachOf windowBand frameBytes frameWindowBy frameWindow flat byCalls byPlainFrame
 agree = refl

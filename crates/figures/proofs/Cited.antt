@@ -6,7 +6,7 @@ use lib.ListN.{replicate}
 use Rattle.common.specs.Tests.{every, some, within}
 use Rattle.grid.specs.Widths.{widthTaken}
 use Rattle.grid.specs.Sizes.{bandBytes}
-use Rattle.grid.specs.Check.{q1, q3, q4, q11}
+use Rattle.grid.specs.Check.{blockSide, q1, q3, q4, q11}
 use Rattle.marks.specs.Marks.{q12}
 use Rattle.calls.specs.Orders.{startNumber}
 use Rattle.frame.specs.Calls.{Accepts}
@@ -14,7 +14,7 @@ use Rattle.frame.proofs.Demand3Holds.{demand3}
 use Rattle.figures.specs.Instance.{begun, asked, part, told, byCalls, byPlainFrame}
 
 accepted : Accepts begun
-unfolding startNumber q1 q3 q4 q11 q12 every within widthTaken some bandBytes
+unfolding startNumber blockSide q1 q3 q4 q11 q12 every within widthTaken some bandBytes
 accepted = refl
 
 pub cited : byCalls ≡ byPlainFrame

@@ -1,33 +1,24 @@
-// The fields of MIL-STD-2500C's headers that this program needs, at the places where they stand in a file with one
-// image
-// of two bands that has no corner coordinates (ICORDS), no comments (NICOM) and no look-up tables (NLUTS).
+// Where the three parts of the image subheader and the image stand, in a file of MIL-STD-2500C with one image of two
+// bands that has no corner coordinates (ICORDS), no comments (NICOM) and no look-up tables (NLUTS).
 ghost use Prim.Native.Nat.{_<_};
-use grid::Grid;
-use layout::InterleaveMode;
+use subheader::ImageSubheader;
+use subheader::ReadSubheader;
 
+// Fields of the file header: the lengths of this header, of the image subheader and of the image.
 const HL: usize = 354;
 
 const LISH001: usize = 363;
 
 const LI001: usize = 369;
 
+// Fields of the image subheader: the first of each part, and the count of bands.
 const NROWS: usize = 333;
 
-const NCOLS: usize = 341;
+const IC: usize = 373;
 
 const NBANDS: usize = 375;
 
 const IMODE: usize = 403;
-
-const NBPR: usize = 404;
-
-const NBPC: usize = 408;
-
-const NPPBH: usize = 412;
-
-const NPPBV: usize = 416;
-
-const NBPP: usize = 420;
 
 // A byte of the file; 0 past its end.
 fn byte_at(file: &[u8], at: usize) -> u8 {
@@ -53,21 +44,21 @@ fn field(file: &[u8], at: usize, digits: usize) -> usize
     number
 }
 
-// The same, in the image subheader.
-fn image_field(file: &[u8], at: usize, digits: usize) -> u32
-    requires { ⌜ (at < 1000) × (digits < 16) ⌝ }
+// So many bytes of the image subheader; none where the file ends before them.
+fn part(file: &[u8], at: usize, size: usize) -> &[u8]
+    requires { ⌜ (at < 1000) × (size < 1000) ⌝ }
 {
-    let start = field(file, HL, 6);
-    (field(file, start + at, digits) % 4_294_967_296) as u32
+    let start = field(file, HL, 6) + at;
+    let end = start + size;
+    if file.len() < end {
+        return &file[0..0];
+    }
+    &file[start..end]
 }
 
-fn mode_of(letter: u8) -> InterleaveMode {
-    match letter {
-        b'P' => InterleaveMode::P,
-        b'R' => InterleaveMode::R,
-        b'S' => InterleaveMode::S,
-        _ => InterleaveMode::B,
-    }
+// The bands of the image.
+fn bands(file: &[u8]) -> u32 {
+    (field(file, field(file, HL, 6) + NBANDS, 1) % 4_294_967_296) as u32
 }
 
 // Where the image's bytes start.
@@ -82,18 +73,10 @@ pub fn image_end(file: &[u8]) -> usize {
     image_start(file) + field(file, LI001, 10)
 }
 
-// The image's grid.
-pub fn grid_of(file: &[u8]) -> Grid {
-    let start = field(file, HL, 6);
-    Grid {
-        nrows: image_field(file, NROWS, 8),
-        ncols: image_field(file, NCOLS, 8),
-        bands: image_field(file, NBANDS, 1),
-        nbpp: image_field(file, NBPP, 2),
-        imode: mode_of(byte_at(file, start + IMODE)),
-        nppbh: image_field(file, NPPBH, 4),
-        nppbv: image_field(file, NPPBV, 4),
-        nbpr: image_field(file, NBPR, 4),
-        nbpc: image_field(file, NBPC, 4),
-    }
+// What the image subheader says.
+pub fn subheader_of(file: &[u8]) -> ReadSubheader {
+    let first = part(file, NROWS, ImageSubheader::FIRST_BYTES);
+    let second = part(file, IC, ImageSubheader::SECOND_BYTES);
+    let third = part(file, IMODE, ImageSubheader::THIRD_BYTES);
+    ImageSubheader::read(first, second, third, bands(file))
 }

@@ -1,14 +1,19 @@
-// Reads NITF images that GDAL wrote, block by block and row by row, and prints their samples.
-// tools/gdal_images.py made the images in data/, and stdout from what GDAL reads out of them.
+// Reads NITF images that GDAL wrote, block by block and row by row, and prints their samples. Of one more image, in one
+// block of 9,000 columns, it prints some columns.
+// tools/gdal_images.py made GDAL's images in data/, and their lines of stdout from what GDAL reads out of them.
+// tools/wide_image.py made the image with the wide block, and its lines.
 mod header;
 
-use crate::header::grid_of;
 use crate::header::image_end;
 use crate::header::image_start;
+use crate::header::subheader_of;
 use grid::Grid;
 use printing::print_number;
 use printing::print_read;
 use printing::print_text;
+
+// The most columns of an image that is printed as a whole.
+const MAX_COLUMNS: u32 = 19;
 
 // A block of at most 8 columns, 4 rows and 2 bands, with its shape.
 fn print_block(image: &[u8], grid: Grid, row: u32, column: u32) {
@@ -49,15 +54,47 @@ fn print_rows(image: &[u8], grid: Grid) {
     }
 }
 
-// The number of the grid and the length of the image, then the samples.
+// Eight columns of a row of the picture, both bands.
+fn print_columns(image: &[u8], grid: Grid, row: u32, column: u32) {
+    print_text(b"row ");
+    print_number(row as u64);
+    print_text(b"column ");
+    print_number(column as u64);
+    let mut out = [0u8; 16];
+    let none: [u32; 0] = [];
+    let shape = windows::read_window(image, grid, row, column, 1, 8, true, &none, &mut out);
+    print_read(shape, &out);
+}
+
+// The first and the last of 9,000 columns, and some on both sides of column 8,192.
+fn print_wide_row(image: &[u8], grid: Grid, row: u32) {
+    print_columns(image, grid, row, 0);
+    print_columns(image, grid, row, 8_188);
+    print_columns(image, grid, row, 8_992);
+}
+
+// The columns of a block, then samples of both rows.
+fn print_wide(image: &[u8], grid: Grid) {
+    print_text(b"NPPBH ");
+    print_number(grid.nppbh as u64);
+    print_text(b"\n");
+    print_wide_row(image, grid, 0);
+    print_wide_row(image, grid, 1);
+}
+
+// The length of the image, then samples.
 fn print_image(image: &[u8], grid: Grid) {
-    print_number(grid.check() as u64);
     print_number(image.len() as u64);
     print_text(b"\n");
+    if MAX_COLUMNS < grid.ncols {
+        print_wide(image, grid);
+        return;
+    }
     print_blocks(image, grid);
     print_rows(image, grid);
 }
 
+// The number of the subheader, then the image where it is 0.
 fn print_file(file: &[u8]) {
     let start = image_start(file);
     let end = image_end(file);
@@ -67,7 +104,14 @@ fn print_file(file: &[u8]) {
     if file.len() < end {
         return;
     }
-    print_image(&file[start..end], grid_of(file));
+    let read = subheader_of(file);
+    print_number(read.number as u64);
+    if read.number != 0 {
+        print_text(b"\n");
+        return;
+    }
+    let subheader = read.subheader;
+    print_image(&file[start..end], subheader.grid);
 }
 
 fn print_named(name: &[u8]) {
@@ -78,7 +122,7 @@ fn print_named(name: &[u8]) {
         os::fail(name);
         return;
     }
-    let mut file = [0u8; 8192];
+    let mut file = [0u8; 40000];
     let n = io::read_full(fd, &mut file);
     libc::close(fd);
     print_file(&file[..n]);
@@ -89,4 +133,5 @@ fn main() {
     print_named(b"16.ntf");
     print_named(b"32.ntf");
     print_named(b"64.ntf");
+    print_named(b"wide.ntf");
 }

@@ -1,2 +1,3 @@
 -- What the C boundary adds.
 pub mod Boundary
+pub mod Subheaders

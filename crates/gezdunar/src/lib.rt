@@ -5,6 +5,7 @@ mod names;
 mod reads;
 mod reorderings;
 mod sizes;
+mod subheaders;
 mod writes;
 
 // The grid's numbers, IMODE as its letter's byte.
@@ -19,6 +20,25 @@ pub struct GridNumbers {
     pub nppbv: u32,
     pub nbpr: u32,
     pub nbpc: u32,
+}
+
+// The fields of an image subheader, named values as their bytes.
+#[repr(C)]
+pub struct SubheaderBytes {
+    pub pvtype: [u8; 3],
+    pub irep: [u8; 8],
+    pub icat: [u8; 8],
+    pub abpp: u32,
+    pub pjust: u8,
+    pub ic: [u8; 2],
+    pub grid: GridNumbers,
+}
+
+// What the reader of a subheader answers.
+#[repr(C)]
+pub struct SubheaderAnswer {
+    pub number: u32,
+    pub subheader: SubheaderBytes,
 }
 
 // Where a part of the image lies, and the call's number.

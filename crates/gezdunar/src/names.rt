@@ -1,6 +1,6 @@
 // The version, a grid's numbers, and the grid that numbers name.
 ghost use mathlib.Core.Path.{_≡_};
-ghost use Rattle.gezdunar.specs.Boundary.{version, numbersOf, modeOf, namedGrid};
+ghost use Rattle.gezdunar.specs.Boundary.{version, numbersOf, modeOf, gridIn, namedGrid};
 use crate::GridNumbers;
 use grid::Grid;
 use layout::InterleaveMode;
@@ -22,7 +22,7 @@ pub enum NamedGrid {
 pub extern "C" fn gezdunar_version() -> u32
     ensures { λ r. ⌜ r ≡ version ⌝ }
 {
-    2_000
+    3_000
 }
 
 // The numbers of a picture in blocks; NBPR and NBPC follow from the sides.
@@ -72,21 +72,28 @@ pub fn named_mode(byte: u8) -> NamedMode
     NamedMode::NoMode
 }
 
+// The grid of the numbers in a mode.
+pub fn grid_in(numbers: GridNumbers, imode: InterleaveMode) -> Grid
+    ensures { λ r. ⌜ r ≡ gridIn numbers imode ⌝ }
+{
+    Grid {
+        nrows: numbers.nrows,
+        ncols: numbers.ncols,
+        bands: numbers.bands,
+        nbpp: numbers.nbpp,
+        imode,
+        nppbh: numbers.nppbh,
+        nppbv: numbers.nppbv,
+        nbpr: numbers.nbpr,
+        nbpc: numbers.nbpc,
+    }
+}
+
 pub fn named_grid(numbers: GridNumbers) -> NamedGrid
     ensures { λ r. ⌜ r ≡ namedGrid numbers ⌝ }
 {
     match named_mode(numbers.imode) {
-        NamedMode::Mode(mode) => NamedGrid::Known(Grid {
-            nrows: numbers.nrows,
-            ncols: numbers.ncols,
-            bands: numbers.bands,
-            nbpp: numbers.nbpp,
-            imode: mode,
-            nppbh: numbers.nppbh,
-            nppbv: numbers.nppbv,
-            nbpr: numbers.nbpr,
-            nbpc: numbers.nbpc,
-        }),
+        NamedMode::Mode(mode) => NamedGrid::Known(grid_in(numbers, mode)),
         NamedMode::NoMode => NamedGrid::Unknown,
     }
 }

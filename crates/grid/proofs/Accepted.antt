@@ -2,22 +2,24 @@
 -- Assumes nothing.
 use mathlib.Core.Path.{_≡_, refl, sym, _∙_}
 use mathlib.Core.Bool.{Bool, true, false}
+use mathlib.Core.List.{[], _∷_}
 use Prim.Native.Nat.{ℕ, _+_, _-_, _*_, _≤_, _<_}
 use native.Mathlib.Omega.{arith}
 use borrow.Author.Tests.{leb-true, ltb-true, eqb-true}
 use native.Mathlib.Nat.{mul-le-mul-right}
 use lib.Arith.{digits-lt}
-use lib.Dec.{lit<}
+use lib.Dec.{lit<, eqb}
 use Rattle.layout.specs.Internal.Layout.{SampleSize}
 use Rattle.grid.specs.declared.Grid.{Grid}
 use Rattle.common.specs.Questions.{ask}
 use Rattle.common.specs.Rounding.{ceilDiv}
 use Rattle.grid.specs.Sizes.{sampleBytes, bandBytes, blocks, imageBytes, blockIndex, actualRows, actualColumns}
-use Rattle.grid.specs.Check.{q1, q2, q3, q4, q6, askGrid, gridNumber, Accepted}
+use Rattle.grid.specs.Check.{blockSide, q1, q2, q3, q4, q6, askGrid, gridNumber, Accepted}
 use Rattle.grid.specs.Layout.{Block}
 use Rattle.common.proofs.Arith.{prod-le, part-start, ceil-pos}
 use Rattle.common.proofs.Questions.{Before, ask-inv}
-use Rattle.common.proofs.Tests.{every-at, within-facts}
+use Rattle.common.specs.Tests.{within, some}
+use Rattle.common.proofs.Tests.{true-false, every-at, within-facts, Within}
 use Rattle.grid.proofs.WidthLaws.{taken-pos, taken-top, sample-size}
 
 pub record Answered (g : Grid) : Type 0 where
@@ -87,24 +89,57 @@ pub record Sized (g : Grid) : Type 0 where
   pub nbpp-pos : 0 < g .nbpp
   pub nbpp-le : g .nbpp ≤ 64
 
+-- a side of a block lies within the limits of the picture's; above 8,192 it is the picture's own
+pub record Side (side picture : ℕ) : Type 0 where
+  pub pos : 0 < side
+  pub le : side ≤ 99_999_999
+  pub own : 8_192 < side → side ≡ picture
+
+pub side-facts : (side picture : ℕ) → blockSide side picture ≡ true → Within 1 99_999_999 picture → Side side picture
+unfolding blockSide some
+side-facts side picture e w = go (within 1 8_192 side) (eqb side picture) refl refl e
+  where
+    go : (a b : Bool) → within 1 8_192 side ≡ a → eqb side picture ≡ b → some (a ∷ b ∷ []) ≡ true → Side side picture
+    go true b p q f =
+        let s = within-facts 1 8_192 side p in
+        record { pos = s .low; le = omega (arith, s .high); own = λ h. absurd (omega (arith, s .high)) }
+    go false true p q f =
+        let same : side ≡ picture = eqb-true _ _ q in
+        record { pos = omega (arith, w .low); le = omega (arith, w .high); own = λ h. same }
+    go false false p q f = true-false (sym f)
+
+-- both sides of a block
+pub record Sides (g : Grid) : Type 0 where
+  pub across : Side (g .nppbh) (g .ncols)
+  pub down : Side (g .nppbv) (g .nrows)
+
+pub block-sides : (g : Grid) → q1 g ≡ true → Sides g
+unfolding q1
+block-sides g e =
+    let a = every-at _ e in
+    record {
+      across = side-facts (g .nppbh) (g .ncols) (a 2) (within-facts 1 99_999_999 (g .ncols) (a 1));
+      down = side-facts (g .nppbv) (g .nrows) (a 3) (within-facts 1 99_999_999 (g .nrows) (a 0));
+    }
+
 pub sized : (g : Grid) → q1 g ≡ true → q2 g ≡ true → Sized g
 unfolding q1
 sized g e f =
     let a = every-at _ e in
     let r = within-facts 1 99_999_999 (g .nrows) (a 0) in
     let c = within-facts 1 99_999_999 (g .ncols) (a 1) in
-    let h = within-facts _ _ (g .nppbh) (a 2) in
-    let v = within-facts _ _ (g .nppbv) (a 3) in
+    let h = block-sides g e .across in
+    let v = block-sides g e .down in
     let b = within-facts 1 99_999 (g .bands) (a 4) in
     record {
       nrows-pos = r .low;
       nrows-le = r .high;
       ncols-pos = c .low;
       ncols-le = c .high;
-      nppbh-pos = h .low;
-      nppbh-le = omega (arith, h .high);
-      nppbv-pos = v .low;
-      nppbv-le = omega (arith, v .high);
+      nppbh-pos = h .pos;
+      nppbh-le = h .le;
+      nppbv-pos = v .pos;
+      nppbv-le = v .le;
       bands-pos = b .low;
       bands-le = b .high;
       nbpp-pos = taken-pos (g .nbpp) f;

@@ -6,21 +6,25 @@ use mathlib.Core.Bool.{Bool}
 use mathlib.Core.List.{[], _∷_}
 use lib.Dec.{leb, ltb, eqb}
 use Rattle.common.specs.Questions.{ask}
-use Rattle.common.specs.Tests.{every, within}
+use Rattle.common.specs.Tests.{every, some, within}
 use Rattle.common.specs.Rounding.{ceilDiv}
 use Rattle.grid.specs.Widths.{widthTaken}
 use Rattle.grid.specs.Sizes.{imageBytes}
 use Rattle.grid.specs.declared.Grid.{Grid}
 use Rattle.layout.specs.declared.InterleaveMode.{InterleaveMode}
 
--- NROWS and NCOLS are 1 to 99,999,999, NPPBH and NPPBV 1 to 8,192, bands 1 to 99,999
+-- a side of a block is 1 to 8,192, or the picture's own
+unfoldable pub blockSide : ℕ → ℕ → Bool
+blockSide side picture = some (within 1 8_192 side ∷ eqb side picture ∷ [])
+
+-- NROWS and NCOLS are 1 to 99,999,999, NPPBH and NPPBV 1 to 8,192 or NCOLS and NROWS, bands 1 to 99,999
 unfoldable pub q1 : Grid → Bool
 q1 g =
     every
     (within 1 99_999_999 (g .nrows)
     ∷ within 1 99_999_999 (g .ncols)
-    ∷ within 1 8_192 (g .nppbh)
-    ∷ within 1 8_192 (g .nppbv)
+    ∷ blockSide (g .nppbh) (g .ncols)
+    ∷ blockSide (g .nppbv) (g .nrows)
     ∷ within 1 99_999 (g .bands)
     ∷ [])
 

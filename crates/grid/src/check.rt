@@ -1,16 +1,27 @@
 // Questions 1 to 4.
 ghost use mathlib.Core.Path.{_≡_};
 ghost use mathlib.Core.Bool.{true};
-ghost use Rattle.grid.specs.Check.{q1, q2, q3, q4, q6, q11, gridNumber, Accepted, gridOf};
+ghost use Rattle.grid.specs.Check.{blockSide, q1, q2, q3, q4, q6, q11, gridNumber, Accepted, gridOf};
 use crate::Grid;
 use crate::widths::width_bytes;
 use common::ceil_div;
 use common::within;
 use layout::InterleaveMode;
 
+// Is a side of a block within its limit, or the picture's own?
+fn block_side_fits(side: u32, picture: u32) -> bool
+    ensures { λ r. ⌜ r ≡ blockSide side picture ⌝ }
+{
+    if within(1, Grid::MAX_BLOCK_SIDE, side) {
+        return true;
+    }
+    side == picture
+}
+
 impl Grid {
     pub const MAX_PICTURE_SIDE: u32 = 99_999_999;
 
+    // The most rows or columns of a block that is not as high or as wide as the picture.
     pub const MAX_BLOCK_SIDE: u32 = 8_192;
 
     pub const MAX_BANDS: u32 = 99_999;
@@ -64,10 +75,10 @@ impl Grid {
         if !within(1, Self::MAX_PICTURE_SIDE, self.ncols) {
             return false;
         }
-        if !within(1, Self::MAX_BLOCK_SIDE, self.nppbh) {
+        if !block_side_fits(self.nppbh, self.ncols) {
             return false;
         }
-        if !within(1, Self::MAX_BLOCK_SIDE, self.nppbv) {
+        if !block_side_fits(self.nppbv, self.nrows) {
             return false;
         }
         within(1, Self::MAX_BANDS, self.bands)

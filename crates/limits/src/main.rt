@@ -19,9 +19,8 @@ fn figure(nbpp: u32) -> Grid {
     Grid::new(3, 5, 2, nbpp, InterleaveMode::B, 4, 2)
 }
 
-// One row of blocks of one pixel, with its count of blocks given.
-fn across(nbpr: u32, ncols: u32) -> Grid {
-    let g = Grid::new(1, ncols, 1, 8, InterleaveMode::P, 1, 1);
+// The same grid with other counts of blocks.
+fn with_blocks(g: Grid, nbpr: u32, nbpc: u32) -> Grid {
     let imode = g.imode;
     Grid {
         nrows: g.nrows,
@@ -32,25 +31,18 @@ fn across(nbpr: u32, ncols: u32) -> Grid {
         nppbh: g.nppbh,
         nppbv: g.nppbv,
         nbpr,
-        nbpc: g.nbpc,
+        nbpc,
     }
+}
+
+// One row of blocks of one pixel, with its count of blocks given.
+fn across(nbpr: u32, ncols: u32) -> Grid {
+    with_blocks(Grid::new(1, ncols, 1, 8, InterleaveMode::P, 1, 1), nbpr, 1)
 }
 
 // One column of blocks of one pixel, with its count of blocks given.
 fn down(nbpc: u32, nrows: u32) -> Grid {
-    let g = Grid::new(nrows, 1, 1, 8, InterleaveMode::R, 1, 1);
-    let imode = g.imode;
-    Grid {
-        nrows: g.nrows,
-        ncols: g.ncols,
-        bands: g.bands,
-        nbpp: g.nbpp,
-        imode,
-        nppbh: g.nppbh,
-        nppbv: g.nppbv,
-        nbpr: g.nbpr,
-        nbpc,
-    }
+    with_blocks(Grid::new(nrows, 1, 1, 8, InterleaveMode::R, 1, 1), 1, nbpc)
 }
 
 fn figures() {
@@ -105,6 +97,62 @@ fn sides() {
     answer(b"bands 100000: ", Grid::new(3, 5, 100_000, 8, b, 4, 2));
 }
 
+// A block may be above 8,192 columns where it is as wide as the picture.
+fn wide_blocks() {
+    let b = InterleaveMode::B;
+    answer(
+        b"NCOLS 8193, NPPBH 8193: ",
+        Grid::new(3, 8_193, 1, 8, b, 8_193, 2),
+    );
+    answer(
+        b"NCOLS 8194, NPPBH 8193: ",
+        Grid::new(3, 8_194, 1, 8, b, 8_193, 2),
+    );
+    answer(
+        b"NROWS 8193, NPPBH 8193: ",
+        Grid::new(8_193, 5, 1, 8, b, 8_193, 2),
+    );
+    let wide = Grid::new(3, 9_000, 1, 8, b, 9_000, 2);
+    answer(b"NCOLS 9000, NPPBH 9000, NBPR 2: ", with_blocks(wide, 2, 2));
+    answer(b"NCOLS 0, NPPBH 0: ", Grid::new(3, 0, 1, 8, b, 0, 2));
+    answer(
+        b"NCOLS 99999999, NPPBH 99999999: ",
+        Grid::one_block(1, 99_999_999, 1, 8, b),
+    );
+    answer(
+        b"NCOLS 100000000, NPPBH 100000000: ",
+        Grid::one_block(1, 100_000_000, 1, 8, b),
+    );
+}
+
+// The same for rows.
+fn high_blocks() {
+    let b = InterleaveMode::B;
+    answer(
+        b"NROWS 8193, NPPBV 8193: ",
+        Grid::new(8_193, 5, 1, 8, b, 4, 8_193),
+    );
+    answer(
+        b"NROWS 8194, NPPBV 8193: ",
+        Grid::new(8_194, 5, 1, 8, b, 4, 8_193),
+    );
+    answer(
+        b"NCOLS 8193, NPPBV 8193: ",
+        Grid::new(3, 8_193, 1, 8, b, 4, 8_193),
+    );
+    let high = Grid::new(9_000, 5, 1, 8, b, 4, 9_000);
+    answer(b"NROWS 9000, NPPBV 9000, NBPC 2: ", with_blocks(high, 2, 2));
+    answer(b"NROWS 0, NPPBV 0: ", Grid::new(0, 5, 1, 8, b, 4, 0));
+    answer(
+        b"NROWS 99999999, NPPBV 99999999: ",
+        Grid::one_block(99_999_999, 1, 1, 8, b),
+    );
+    answer(
+        b"NROWS 100000000, NPPBV 100000000: ",
+        Grid::one_block(100_000_000, 1, 1, 8, b),
+    );
+}
+
 fn counts() {
     answer(b"NBPR 0: ", across(0, 1));
     answer(b"NBPR 9999: ", across(9_999, 9_999));
@@ -140,10 +188,42 @@ fn images() {
     );
 }
 
+// The answer, and the image's bytes where it is 0.
+fn answer_with_bytes(label: &[u8], g: Grid) {
+    answer(label, g);
+    if g.check() == 0 {
+        number(b"its bytes: ", g.image_bytes() as u64);
+    }
+}
+
+// Pictures in one block.
+fn one_blocks() {
+    let p = InterleaveMode::P;
+    answer_with_bytes(
+        b"65536 by 65536 at 1 bit in one block: ",
+        Grid::one_block(65_536, 65_536, 1, 1, p),
+    );
+    answer_with_bytes(
+        b"131075 by 262138 at 1 bit in one block: ",
+        Grid::one_block(131_075, 262_138, 1, 1, p),
+    );
+    answer_with_bytes(
+        b"67108864 by 67108864 with 512 bands of 64 bits in one block: ",
+        Grid::one_block(67_108_864, 67_108_864, 512, 64, p),
+    );
+    answer_with_bytes(
+        b"largest block: ",
+        Grid::one_block(99_999_999, 99_999_999, 99_999, 64, p),
+    );
+}
+
 fn main() {
     figures();
     widths();
     sides();
+    wide_blocks();
+    high_blocks();
     counts();
     images();
+    one_blocks();
 }

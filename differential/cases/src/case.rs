@@ -1,6 +1,6 @@
 //! A case is one call, or for a frame a list of calls, with everything that it is handed.
 
-use crate::{Grid, Lent, Mode};
+use crate::{Grid, Lent, Mode, Subheader};
 
 #[derive(Clone, Debug, PartialEq)]
 pub enum Case {
@@ -74,6 +74,14 @@ pub enum Case {
         tile: u32,
         parallel: bool,
     },
+    /// Three parts of an image subheader, and the count of bands.
+    ReadSubheader {
+        parts: [Vec<u8>; 3],
+        bands: u32,
+    },
+    WriteSubheader {
+        subheader: Subheader,
+    },
     /// One of the others, with lent buffers of these lengths.
     Lent {
         case: Box<Case>,
@@ -131,10 +139,13 @@ pub struct Pack {
 /// | lookup | present, offset known, offset | none |
 /// | mask from marks | two record lengths, code bits | 32-bit words |
 /// | reorderings | none | samples |
+/// | subheader read | PVTYPE, PJUST, IC, ABPP, the grid's fields | IREP, ICAT |
+/// | subheader write | none | the three parts |
 ///
 /// In a frame the two values are the count for progress, and row and column for a finish with 15.
-/// Words are big-endian. The samples, tables and words are the lent output, the image and the mark words
-/// the lent buffers: whole, as the calls left them.
+/// PVTYPE, PJUST and IC are given by their place in `ALL`, IMODE by its letter. Words are big-endian. The
+/// samples, tables, words and parts are the lent outputs, the image and the mark words the lent buffers:
+/// whole, as the calls left them.
 #[derive(Clone, Debug, Default, PartialEq)]
 pub struct Answer {
     pub number: u8,
@@ -167,10 +178,12 @@ pub enum Kind {
     ToSequential,
     FromSequential,
     Select,
+    ReadSubheader,
+    WriteSubheader,
 }
 
 impl Kind {
-    pub const ALL: [Kind; 12] = [
+    pub const ALL: [Kind; 14] = [
         Kind::Read,
         Kind::Whole,
         Kind::Window,
@@ -183,6 +196,8 @@ impl Kind {
         Kind::ToSequential,
         Kind::FromSequential,
         Kind::Select,
+        Kind::ReadSubheader,
+        Kind::WriteSubheader,
     ];
 
     pub fn name(self) -> &'static str {
@@ -199,7 +214,19 @@ impl Kind {
             Kind::ToSequential => "to band sequential",
             Kind::FromSequential => "from band sequential",
             Kind::Select => "pixel to band sequential",
+            Kind::ReadSubheader => "subheader read",
+            Kind::WriteSubheader => "subheader write",
         }
+    }
+
+    /// Has the original an answer?
+    pub fn in_original(self) -> bool {
+        !matches!(self, Kind::ReadSubheader | Kind::WriteSubheader)
+    }
+
+    /// Is the call about a picture in blocks?
+    pub fn has_grid(self) -> bool {
+        !matches!(self, Kind::ToSequential | Kind::FromSequential | Kind::Select)
     }
 }
 
@@ -218,6 +245,8 @@ impl Case {
             Case::ToSequential { .. } => Kind::ToSequential,
             Case::FromSequential { .. } => Kind::FromSequential,
             Case::Select { .. } => Kind::Select,
+            Case::ReadSubheader { .. } => Kind::ReadSubheader,
+            Case::WriteSubheader { .. } => Kind::WriteSubheader,
             Case::Lent { case, .. } => case.kind(),
         }
     }

@@ -77,13 +77,31 @@ impl Difference {
     }
 }
 
+/// Most characters that are printed of a case or an answer.
+const MOST: usize = 4_000;
+
+/// A value as it is printed, with the end left out if that is long.
+fn shortened(value: &impl fmt::Debug) -> String {
+    let mut text = format!("{value:?}");
+    if text.len() > MOST {
+        text.truncate(MOST);
+        text.push_str(" and so on");
+    }
+    text
+}
+
 impl fmt::Display for Difference {
     fn fmt(&self, f: &mut fmt::Formatter<'_>) -> fmt::Result {
-        write!(f, "a difference: {:?}", self.case)?;
+        write!(f, "a difference: {}", shortened(&self.case))?;
         self.answers.iter().try_for_each(|(name, answer)| match answer {
-            Some(answer) => write!(f, "\n{name}: {answer:?}"),
+            Some(answer) => write!(f, "\n{name}: {}", shortened(answer)),
             None => write!(f, "\n{name}: no answer"),
-        })
+        })?;
+        if let [(_, Some(one)), (_, Some(other))] = &self.answers {
+            let first = one.bytes.iter().zip(&other.bytes).position(|(a, b)| a != b);
+            first.map_or(Ok(()), |at| write!(f, "\nthe bytes differ first at {at}"))?;
+        }
+        Ok(())
     }
 }
 

@@ -4,9 +4,10 @@ mod frame;
 mod mask;
 mod outside;
 mod reorder;
+mod subheader;
 
 use crate::model::layout;
-use crate::{Area, Case, Grid, Kind, Mode, Source, WIDTHS};
+use crate::{Area, Case, Grid, Kind, Mode, Source, BLOCK_SIDE, WIDTHS};
 
 /// How far a generator goes.
 #[derive(Clone, Copy)]
@@ -14,6 +15,8 @@ pub struct Size {
     /// Most rows and columns of a picture, and of a block.
     pub picture: u64,
     pub block: u64,
+    /// How many lengths, from 8,193 on, a side of the picture may have that is a block's too; 0 for no such side.
+    pub long: u64,
     pub bands: u64,
     /// Most entries of a band list, and calls of a frame that are drawn one by one.
     pub list: u64,
@@ -45,7 +48,7 @@ pub enum Lengths {
 /// A case of a kind, or none if its image is above the size.
 pub fn generate(kind: Kind, from: &mut Source, size: &Size) -> Option<Case> {
     let case = compared(kind, from, size)?;
-    Some(if size.outside { outside::changed(case, from) } else { case })
+    Some(if size.outside { outside::changed(case, from, size) } else { case })
 }
 
 fn compared(kind: Kind, from: &mut Source, size: &Size) -> Option<Case> {
@@ -73,21 +76,62 @@ fn on_grid(kind: Kind, grid: Grid, from: &mut Source, size: &Size) -> Case {
         Kind::Rewrite => Case::Rewrite { grid, table: mask::table(&grid, from, size) },
         Kind::MaskWrite => mask::mask_write(grid, from),
         Kind::Lookup => mask::lookup(grid, from, size),
+        Kind::ReadSubheader => subheader::read(grid, from),
+        Kind::WriteSubheader => subheader::write(grid, from),
         _ => mask::from_marks(grid, from),
     }
 }
 
 fn grid(from: &mut Source, size: &Size) -> Grid {
+    if size.long > 0 {
+        return long_grid(from, size);
+    }
     let picture = [1 + from.number(size.picture), 1 + from.number(size.picture)];
-    let bands = 1 + from.number(size.bands);
-    let nbpp = size.width.unwrap_or_else(|| WIDTHS[from.below(WIDTHS.len() as u64) as usize]);
-    let mode = size.mode.unwrap_or_else(|| Mode::ALL[from.below(4) as usize]);
+    let (bands, nbpp, mode) = samples(from, size);
     let block = [1 + from.number(size.block), 1 + from.number(size.block)];
     Grid::new(picture, bands, nbpp, mode, block)
 }
 
+/// The long side is across or down.
+fn long_grid(from: &mut Source, size: &Size) -> Grid {
+    let side = BLOCK_SIDE + 1 + from.number(size.long);
+    let picture = 1 + from.number(size.picture);
+    let (bands, nbpp, mode) = samples(from, size);
+    let block = 1 + from.number(size.block);
+    if from.below(2) == 0 {
+        Grid::new([picture, side], bands, nbpp, mode, [block, side])
+    } else {
+        Grid::new([side, picture], bands, nbpp, mode, [side, block])
+    }
+}
+
+/// Bands, NBPP and IMODE.
+fn samples(from: &mut Source, size: &Size) -> (u32, u32, Mode) {
+    let bands = 1 + from.number(size.bands);
+    let nbpp = size.width.unwrap_or_else(|| WIDTHS[from.below(WIDTHS.len() as u64) as usize]);
+    let mode = size.mode.unwrap_or_else(|| Mode::ALL[from.below(4) as usize]);
+    (bands, nbpp, mode)
+}
+
 fn bytes(from: &mut Source, size: &Size, count: u64) -> Vec<u8> {
+    if size.long > 0 {
+        // Many bytes out of two choices, so that a case that shows a difference is soon made smaller.
+        let mut data = Source::random(u64::from(from.byte()) * 256 + u64::from(from.byte()));
+        return (0..count).map(|_| data.byte()).collect();
+    }
     (0..count).map(|_| if size.every_byte { from.below(256) as u8 } else { from.byte() }).collect()
+}
+
+/// A number below `bound`; on a long side the first, the last, or one that an enumeration does not enumerate.
+fn place(from: &mut Source, size: &Size, bound: u32) -> u32 {
+    if size.long == 0 || u64::from(bound) <= size.picture {
+        return from.number(u64::from(bound));
+    }
+    match from.below(3) {
+        0 => 0,
+        1 => bound - 1,
+        _ => (u32::from(from.byte()) * 256 + u32::from(from.byte())) % bound,
+    }
 }
 
 /// Yes once in `odds`, if refusals are wanted.
@@ -169,10 +213,10 @@ fn whole(grid: Grid, from: &mut Source, size: &Size) -> Case {
 }
 
 fn window(grid: Grid, from: &mut Source, size: &Size) -> Case {
-    let top = from.number(u64::from(grid.nrows));
-    let left = from.number(u64::from(grid.ncols));
-    let rows = 1 + from.number(u64::from(grid.nrows - top));
-    let columns = 1 + from.number(u64::from(grid.ncols - left));
+    let top = place(from, size, grid.nrows);
+    let left = place(from, size, grid.ncols);
+    let rows = 1 + place(from, size, grid.nrows - top);
+    let columns = 1 + place(from, size, grid.ncols - left);
     let bands = band_list(grid.bands, from, size);
     let last = ((top + rows - 1) / grid.nppbv, (left + columns - 1) / grid.nppbh);
     let least = layout::block_end(&grid, last.0, last.1);

@@ -58,6 +58,9 @@ impl Grid {
     }
 }
 
+/// The longest side of a block that is not the picture's own.
+pub const BLOCK_SIDE: u32 = 8_192;
+
 /// The accepted values of NBPP.
 pub const WIDTHS: [u32; 29] =
     [1, 2, 3, 4, 5, 6, 7, 8, 9, 10, 11, 12, 13, 14, 15, 16, 24, 25, 26, 27, 28, 29, 30, 31, 32, 40, 48, 56, 64];

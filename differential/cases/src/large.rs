@@ -1,6 +1,6 @@
 //! Cases that the drawn ones do not reach: blocks of more than 64 rows, blocks that the original gives
-//! to its parallel form, pixels longer than a line of the cache, and grids at the limits of questions
-//! 1, 3 and 4.
+//! to its parallel form, pixels longer than a line of the cache, block sides far above 8,192, and grids
+//! at the limits of questions 1, 3 and 4.
 
 use crate::model::layout;
 use crate::{Call, Case, Grid, Mode, Pack, Source};
@@ -20,10 +20,10 @@ fn read(from: &mut Source, grid: Grid, (row, column): (u32, u32), bands: Option<
     Case::Read { grid, image, row, column, level: 0, bands }
 }
 
-/// A frame of two by two blocks, of which one is written and the others are skipped.
+/// A frame of which one block is written and the others are skipped.
 fn write(from: &mut Source, grid: Grid, block: (u32, u32)) -> Case {
     let mut calls = Vec::new();
-    for (row, column) in [(0, 0), (0, 1), (1, 0), (1, 1)] {
+    for (row, column) in grid.every_block() {
         if (row, column) == block {
             let (rows, columns) = (layout::actual_rows(&grid, row), layout::actual_columns(&grid, column));
             let data = bytes(from, u64::from(grid.bands) * rows * columns * layout::sample_bytes(&grid));
@@ -47,6 +47,7 @@ pub fn large() -> impl Iterator<Item = Case> {
     many_rows(&mut makers);
     parallel(&mut makers);
     long_pixels(&mut makers);
+    long_sides(&mut makers);
     many_bands(&mut makers);
     many_blocks(&mut makers);
     zero_counts(&mut makers);
@@ -83,8 +84,8 @@ fn parallel(makers: &mut Makers) {
     }
 }
 
-/// Several bands whose pixel is longer than 64 bytes, and rows of so many bands; blocks at the lower right lack rows and
-/// columns.
+/// Several bands whose pixel is longer than 64 bytes, and rows of so many bands; blocks at the lower
+/// right lack rows and columns.
 fn long_pixels(makers: &mut Makers) {
     for mode in Mode::ALL {
         for nbpp in [7, 8, 12, 16, 24, 32, 40, 64] {
@@ -109,6 +110,28 @@ fn long_pixels(makers: &mut Makers) {
             }
         }
     }
+}
+
+/// Block sides that are the picture's: in one block, and in two of which the second lacks a row or a column.
+fn long_sides(makers: &mut Makers) {
+    for mode in Mode::ALL {
+        for side in [65_536, 65_537] {
+            for nbpp in [1, 8, 12, 64] {
+                let wide = Grid::new([5, side], 2, nbpp, mode, [3, side]);
+                let tall = Grid::new([side, 5], 2, nbpp, mode, [side, 3]);
+                for (grid, block) in [(wide, (1, 0)), (tall, (0, 1))] {
+                    makers.push(Box::new(move |from| read(from, grid, block, Some(vec![1]))));
+                    makers.push(Box::new(move |from| write(from, grid, block)));
+                }
+            }
+        }
+        for picture in [[1, 9_999_999], [9_999_999, 1], [2_049, 8_193], [8_193, 2_049]] {
+            let grid = Grid::new(picture, 1, 1, mode, picture);
+            makers.push(Box::new(move |from| read(from, grid, (0, 0), None)));
+        }
+    }
+    let both = Grid::new([8_193, 8_193], 1, 1, Mode::B, [8_193, 8_193]);
+    makers.push(Box::new(move |from| read(from, both, (0, 0), None)));
 }
 
 fn many_bands(makers: &mut Makers) {

@@ -1,18 +1,19 @@
 //! The buffers that a call is lent beside its input.
 
-use crate::model::{self, layout, mask, questions};
+use crate::model::{self, layout, mask, questions, subheader};
 use crate::{Answer, Case};
 
 /// What a lent buffer holds before the first call.
 const PATTERN: u8 = 0xa5;
 
 /// Lengths: of an output in bytes (in 32-bit words for the mask from marks), of a frame's image in
-/// bytes and of its marks in words.
+/// bytes and of its marks in words, of the outputs for a subheader's parts in bytes.
 #[derive(Clone, Copy, Debug, Default, PartialEq)]
 pub struct Lent {
     pub output: u64,
     pub image: u64,
     pub marks: u64,
+    pub parts: [u64; 3],
 }
 
 impl Lent {
@@ -21,10 +22,11 @@ impl Lent {
         match case {
             Case::Lent { lent, .. } => *lent,
             Case::Frame { grid, .. } => Lent {
-                output: 0,
                 image: u64::try_from(layout::image_bytes(grid)).unwrap_or(u64::MAX),
                 marks: questions::mark_words(grid),
+                ..Lent::default()
             },
+            Case::WriteSubheader { .. } => Lent { parts: subheader::PARTS, ..Lent::default() },
             _ => Lent { output: filled(case), ..Lent::default() },
         }
     }
@@ -43,6 +45,10 @@ impl Lent {
 
     pub fn marks(&self) -> Vec<u64> {
         vec![u64::from_ne_bytes([PATTERN; 8]); self.marks as usize]
+    }
+
+    pub fn parts(&self) -> [Vec<u8>; 3] {
+        self.parts.map(|length| vec![PATTERN; length as usize])
     }
 }
 

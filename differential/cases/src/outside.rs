@@ -1,6 +1,9 @@
 //! Inputs outside the compared domain, enumerated: the numbers of the questions that the original does
 //! not ask.
 
+mod sides;
+mod subheaders;
+
 use crate::{Area, Call, Case, Grid, Header, Lent, Mode, Pack};
 
 type Cases = Box<dyn Iterator<Item = Case>>;
@@ -10,6 +13,8 @@ pub fn outside() -> Vec<(&'static str, Cases)> {
     vec![
         ("every width to 300", Box::new(widths())),
         ("every grid with its fields at the limits", Box::new(grids())),
+        ("every call with block sides about 8,192", Box::new(sides::calls())),
+        ("every window at the ends of long sides", Box::new(sides::windows())),
         ("every call at the limits of an image and a table", Box::new(sizes())),
         ("every window, also outside the picture", Box::new(windows())),
         ("every length of a frame's buffers", Box::new(frames())),
@@ -18,6 +23,13 @@ pub fn outside() -> Vec<(&'static str, Cases)> {
         ("every block and band looked up", Box::new(lookups())),
         ("every mask from marks by the lengths of its buffers", Box::new(from_marks())),
         ("every reordering by its counts", Box::new(reorderings())),
+        ("every byte of a subheader by every other", Box::new(subheaders::bytes())),
+        ("every PVTYPE of some letters, and every IC", Box::new(subheaders::named())),
+        ("every length of a subheader's parts", Box::new(subheaders::lengths())),
+        ("every subheader with three faults", Box::new(subheaders::faults())),
+        ("every subheader with its blocks at the limits", Box::new(subheaders::blocks())),
+        ("every subheader written", Box::new(subheaders::written())),
+        ("every length of the outputs for a subheader", Box::new(subheaders::outputs())),
     ]
 }
 
@@ -51,7 +63,7 @@ fn widths() -> impl Iterator<Item = Case> {
 /// With an empty table, so that an accepted grid gives 16.
 fn grids() -> impl Iterator<Item = Case> {
     let sides = [1, 2, 0, 8_193, 99_999_999, 100_000_000, u32::MAX];
-    let blocks = [1, 8_192, 0, 8_193, u32::MAX];
+    let blocks = [1, 8_192, 0, 8_193, 99_999_999, u32::MAX];
     let bands = [1, 99_999, 0, 100_000, u32::MAX];
     let pictures = pairs(sides.into_iter(), sides.into_iter());
     let nominal = pairs(blocks.into_iter(), blocks.into_iter());
@@ -73,9 +85,18 @@ fn grids() -> impl Iterator<Item = Case> {
 /// limit.
 fn sizes() -> impl Iterator<Item = Case> {
     let grids = [
-        // Images of 4,294,967,293 and of 4,294,967,295 bytes; none has 4,294,967,294.
+        // Images of 4,294,967,293, 4,294,967,294 and 4,294,967,295 bytes.
         Grid::new([10_562_463, 3_253], 1, 1, Mode::B, [1_143, 3_253]),
+        Grid::new([131_075, 262_138], 1, 1, Mode::B, [131_075, 262_138]),
         Grid::new([4_369, 15], 65_537, 8, Mode::B, [1, 1]),
+        // 2^32 bits, which are not too many; 2^32 bytes; 2^64 bytes in one block and in 64.
+        Grid::new([65_536; 2], 1, 1, Mode::B, [65_536; 2]),
+        Grid::new([65_536; 2], 1, 8, Mode::B, [65_536; 2]),
+        Grid::new([67_108_864; 2], 512, 64, Mode::B, [67_108_864; 2]),
+        Grid::new([67_108_864, 524_288], 1 << 16, 64, Mode::P, [67_108_864, 8_192]),
+        // The most that a block and an image can be.
+        Grid::new([99_999_999; 2], 1, 64, Mode::R, [99_999_999; 2]),
+        Grid::new([99_999_999; 2], 99_999, 64, Mode::S, [99_999_999; 2]),
         // 1,073,741,820 and 1,073,741,822 records; none has the number between.
         Grid::new([5_461, 3_277], 60, 8, Mode::S, [1, 1]),
         Grid::new([4_178, 1_103], 233, 8, Mode::S, [1, 1]),
@@ -108,7 +129,7 @@ fn short_calls(grid: Grid) -> Vec<Case> {
         Case::Read { grid, image: image.clone(), row, column, level: 0, bands: bands.clone() },
         Case::Whole { grid, image: image.clone(), row, column },
         Case::Window { grid, image, area, bands },
-        Case::Lent { case: frame, lent: Lent { output: 0, image: 1, marks: 1 } },
+        Case::Lent { case: frame, lent: Lent { image: 1, marks: 1, ..Lent::default() } },
         Case::Parse { grid, table: table.clone() },
         Case::Rewrite { grid, table: table.clone() },
         Case::Lookup { grid, table, row, column, band: 0 },
@@ -141,7 +162,7 @@ fn frames() -> impl Iterator<Item = Case> {
                 let write = Call::Write { row: 1, column: 0, shape: [1, 1, 1], data: vec![9] };
                 let skip = Call::Skip { row: 0, column: 0 };
                 let calls = vec![write, Call::Progress, skip, Call::Progress, Call::Finish];
-                let lent = Lent { output: 0, image, marks };
+                let lent = Lent { image, marks, ..Lent::default() };
                 Case::Lent { case: Box::new(Case::Frame { grid, calls }), lent }
             })
         })

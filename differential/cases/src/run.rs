@@ -5,7 +5,7 @@ use std::process::ExitCode;
 use std::time::Instant;
 
 use crate::{
-    exhaustive, figures, large, outside, outside_size, random_size, Case, Comparison, Difference, Kind, Plan, Size,
+    exhaustive, figures, large, long_size, outside, plans, random_size, Case, Comparison, Difference, Kind, Plan, Size,
     Source,
 };
 
@@ -17,6 +17,9 @@ pub enum Domain {
     /// Also inputs outside it, and lent buffers of any length.
     Any,
 }
+
+/// Of so many random cases there is one with a long side, as these take longer.
+const LONG: u64 = 20;
 
 /// Runs `[SEED [CASES]]`: CASES random cases of each kind; 1 and 20000 if not given.
 pub fn run(mut comparison: Comparison, domain: Domain, words: &[String]) -> ExitCode {
@@ -40,9 +43,14 @@ fn whole(comparison: &mut Comparison, domain: Domain, seed: u64, count: u64) -> 
     for plan in exhaustive() {
         reported(comparison, plan.name, |comparison| enumerated(comparison, &plan, seed))?;
     }
-    random(comparison, "random", &random_size(), seed, count)?;
+    let kinds = || Kind::ALL.into_iter().filter(|kind| domain == Domain::Any || kind.in_original());
+    let on_grid = || kinds().filter(|kind| kind.has_grid());
+    random(comparison, "random", kinds(), &random_size(), seed, count)?;
+    random(comparison, "random, a long side", on_grid(), &long_size(), seed, count / LONG)?;
     if domain == Domain::Any {
-        random(comparison, "random, any input", &outside_size(), seed, count)?;
+        random(comparison, "random, any input", kinds(), &plans::outside(random_size()), seed, count)?;
+        let long = plans::outside(long_size());
+        random(comparison, "random, any input, a long side", on_grid(), &long, seed, count / LONG)?;
         for (name, cases) in outside() {
             reported(comparison, name, |comparison| listed(comparison, cases))?;
         }
@@ -70,8 +78,15 @@ fn enumerated(comparison: &mut Comparison, plan: &Plan, seed: u64) -> Outcome {
     Ok(())
 }
 
-fn random(c: &mut Comparison, name: &str, size: &Size, seed: u64, count: u64) -> Outcome {
-    for kind in Kind::ALL {
+fn random(
+    c: &mut Comparison,
+    name: &str,
+    kinds: impl Iterator<Item = Kind>,
+    size: &Size,
+    seed: u64,
+    count: u64,
+) -> Outcome {
+    for kind in kinds {
         reported(c, &format!("{name}: {}", kind.name()), |comparison| {
             let mut from = Source::random(seed);
             for _ in 0..count {

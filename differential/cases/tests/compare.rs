@@ -73,3 +73,13 @@ fn a_case_without_an_answer_is_left_out() {
     assert!(sides.case(&case).is_ok());
     assert_eq!(sides.tally.accepted() + sides.tally.refused(), 0);
 }
+
+#[test]
+fn long_answers_are_cut_where_they_are_printed() {
+    let answer = |last| Some(Answer { bytes: [vec![7; 9_999], vec![last]].concat(), ..Answer::default() });
+    let mut sides = comparison(answer(1), answer(2));
+    let text = sides.case(&figure_e().case).expect_err("they differ").to_string();
+    assert!(text.len() < 10_000);
+    assert!(text.contains(" and so on\nsecond: "));
+    assert!(text.ends_with(" and so on\nthe bytes differ first at 9999"));
+}

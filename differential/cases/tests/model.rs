@@ -33,7 +33,27 @@ fn grid_limits() {
     assert_eq!(questions::grid(&grid), 3);
 }
 
-/// No image has 4,294,967,294 bytes: that is 2 times a prime that is more than every factor of a size.
+/// A block's side above 8,192 is the picture's own, and not the picture's other side.
+#[test]
+fn long_sides() {
+    let number = |picture, block| questions::grid(&Grid::new(picture, 1, 1, Mode::S, block));
+    for side in [8_193, 9_000, 99_999_999] {
+        assert_eq!(number([1, side], [1, side]), 0);
+        assert_eq!(number([side, 1], [side, 1]), 0);
+        assert_eq!(number([side, 1], [1, side]), 1);
+        assert_eq!(number([1, side], [side, 1]), 1);
+        assert_eq!(number([1, side - 1], [1, side]), 1);
+        assert_eq!(number([side, 1], [side + 1, 1]), 1);
+        let grid = Grid::new([1, side], 1, 1, Mode::B, [1, side]);
+        assert_eq!(questions::grid(&Grid { nbpr: 2, ..grid }), 3);
+    }
+    assert_eq!(number([1, 8_194], [1, 8_193]), 1);
+    assert_eq!(number([100_000_000, 1], [100_000_000, 1]), 1);
+    assert_eq!(number([8_193, 8_193], [8_193, 8_193]), 0);
+    let none = Grid { nrows: 0, nppbv: 0, ..Grid::new([1, 1], 1, 8, Mode::B, [1, 1]) };
+    assert_eq!(questions::grid(&none), 1);
+}
+
 #[test]
 fn image_limit() {
     let held = |grid: Grid| (layout::image_bytes(&grid), questions::grid(&grid));
@@ -51,6 +71,13 @@ fn image_limit() {
         let large = Grid::new([8_192, 8_192], 63, 8, mode, [8_192, 8_192]);
         assert_eq!(held(large), (4_227_858_432, 0));
         assert_eq!(held(Grid { bands: 64, ..large }), (4_294_967_296, 4));
+        let long = Grid::new([131_075, 262_138], 1, 1, mode, [131_075, 262_138]);
+        assert_eq!(held(long), (4_294_967_294, 0));
+        assert_eq!(held(Grid { ncols: 262_139, nppbh: 262_139, ..long }), (4_294_983_679, 4));
+        let bits = Grid::new([65_536; 2], 1, 1, mode, [65_536; 2]);
+        assert_eq!(held(bits), (1 << 29, 0));
+        let wrapped = Grid::new([67_108_864; 2], 512, 64, mode, [67_108_864; 2]);
+        assert_eq!(held(wrapped), (1 << 64, 4));
     }
 }
 
@@ -139,7 +166,7 @@ fn lent_lengths() {
     assert_eq!(Lent::of(&refused).output, 0);
 }
 
-/// Every number of document 01 is reached, but for 5 and 13, which the original gives too.
+/// Every number is reached, but for 5 and 13, which the original gives too.
 #[test]
 fn outside_reaches() {
     let mut numbers = [false; 256];
@@ -152,7 +179,36 @@ fn outside_reaches() {
             }
         }
     }
-    let missing: Vec<usize> = (0..=22).filter(|&number| !numbers[number]).collect();
+    let missing: Vec<usize> = (0..=24).filter(|&number| !numbers[number]).collect();
     assert_eq!(missing, [5, 13]);
-    assert!(numbers[23..].iter().all(|&reached| !reached));
+    assert!(numbers[25..].iter().all(|&reached| !reached));
+}
+
+/// An answer to questions 1 to 4 that is wrong on some grids.
+type Wrong = fn(&Grid) -> u8;
+
+#[test]
+fn wrong_limits_are_found() {
+    let wrong: [(&str, Wrong); 4] = [
+        ("a limit of 8,192", |g| if g.nppbh.max(g.nppbv) > 8_192 { 1 } else { questions::grid(g) }),
+        ("the picture's other side", |g| {
+            let own = if g.nppbh == g.nrows { Grid { nppbh: g.ncols, nbpr: 1, ..*g } } else { *g };
+            questions::grid(&own)
+        }),
+        ("bytes in 64 bits", |g| {
+            let t = (u64::from(g.nppbh) * u64::from(g.nppbv)).wrapping_mul(u64::from(g.nbpp)).div_ceil(8);
+            let bytes = g.blocks().wrapping_mul(u64::from(g.bands)).wrapping_mul(t);
+            let number = questions::grid(g);
+            if number == 4 && bytes <= 4_294_967_294 {
+                0
+            } else {
+                number
+            }
+        }),
+        ("a byte less", |g| if layout::image_bytes(g) == 4_294_967_294 { 4 } else { questions::grid(g) }),
+    ];
+    for (name, wrong) in wrong {
+        let differs = |case| matches!(case, Case::Parse { grid, .. } if wrong(&grid) != questions::grid(&grid));
+        assert!(outside().into_iter().flat_map(|(_, cases)| cases).any(differs), "{name}");
+    }
 }

@@ -1,15 +1,17 @@
 //! A side that is wrong is found, and the case that shows it is small.
 
-use cases::{model, random_size, Answer, Case, Comparison, Difference, Kind, Mode, Side, Source};
+use cases::{
+    long_size, model, random_size, Answer, Case, Comparison, Difference, Kind, Mode, Side, Size, Source, BLOCK_SIDE,
+};
 
 /// The smallest case found that shows a difference from the model.
-fn found(kind: Kind, wrong: impl Fn(&Case) -> Answer + 'static) -> Box<Difference> {
+fn found(kind: Kind, size: &Size, wrong: impl Fn(&Case) -> Answer + 'static) -> Box<Difference> {
     let wrong = Side::new("wrong", move |case| Some(wrong(case)));
     let model = Side::new("model", |case| Some(model::answer(case)));
     let mut comparison = Comparison::new([wrong, model]);
     let mut from = Source::random(1);
     for _ in 0..10_000 {
-        if let Err(difference) = comparison.drawn(kind, &mut from, &random_size()) {
+        if let Err(difference) = comparison.drawn(kind, &mut from, size) {
             return difference;
         }
         from.advance();
@@ -19,7 +21,7 @@ fn found(kind: Kind, wrong: impl Fn(&Case) -> Answer + 'static) -> Box<Differenc
 
 #[test]
 fn rows_taken_for_pixels() {
-    let difference = found(Kind::Read, |case| {
+    let difference = found(Kind::Read, &random_size(), |case| {
         let mut case = case.clone();
         if let Case::Read { grid, .. } = &mut case {
             if grid.mode == Mode::P {
@@ -36,7 +38,7 @@ fn rows_taken_for_pixels() {
 
 #[test]
 fn skip_that_clears() {
-    let difference = found(Kind::Frame, |case| {
+    let difference = found(Kind::Frame, &random_size(), |case| {
         let mut answer = model::answer(case);
         if let Case::Frame { calls, .. } = case {
             if calls.iter().any(|call| call.name() == "skip") {
@@ -48,4 +50,18 @@ fn skip_that_clears() {
     let Case::Frame { grid, calls } = difference.case else { panic!("a frame") };
     assert_eq!((grid.nrows, grid.ncols), (1, 1));
     assert_eq!(calls.len(), 2);
+}
+
+#[test]
+fn long_side_cut() {
+    let difference = found(Kind::Read, &long_size(), |case| {
+        let mut case = case.clone();
+        if let Case::Read { grid, .. } = &mut case {
+            grid.nppbh = grid.nppbh.min(BLOCK_SIDE);
+        }
+        model::answer(&case)
+    });
+    let Case::Read { grid, .. } = difference.case else { panic!("a read") };
+    assert_eq!((grid.nrows, grid.ncols, grid.nppbh), (1, 8_193, 8_193));
+    assert_eq!((grid.mode, grid.bands, grid.nbpp), (Mode::B, 1, 1));
 }

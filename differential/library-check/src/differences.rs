@@ -13,6 +13,7 @@ pub fn print() {
     block_counts();
     zero_counts();
     limits();
+    named_values();
     whole_block();
     frames();
     tables_read();
@@ -89,14 +90,31 @@ fn zero_counts() {
 }
 
 fn limits() {
-    let wide = Grid::new([1, 8_193], 1, 1, Mode::B, [1, 8_193]);
-    read("blocks of 8,193 columns", wide, &[0x80; 1_025], (0, 0), None);
+    let wide = Grid::new([1, 1], 1, 8, Mode::B, [1, 8_193]);
+    read("blocks of 8,193 columns for one column", wide, &[1], (0, 0), None);
+    let crosswise = Grid::new([8_193, 1], 1, 8, Mode::B, [1, 8_193]);
+    read("blocks of 8,193 columns for one column and 8,193 rows", crosswise, &[1], (0, 0), None);
     let bands = Grid::new([1, 1], 100_000, 1, Mode::B, [1, 1]);
     read("100,000 bands of one bit", bands, &[0x80; 100_000], (0, 0), Some(&[99_999]));
     let tall = Grid::new([100_000_000, 1], 1, 1, Mode::B, [8_192, 1]);
     read("100,000,000 rows, block (0, 0)", tall, &[0x80; 1_024], (0, 0), None);
     let large = Grid::new([15, 4_369], 65_537, 8, Mode::B, [1, 1]);
     read("an image of 4,294,967,295 bytes, block (0, 0)", large, &[7; 65_537], (0, 0), Some(&[0]));
+}
+
+/// The parts of a picture of one sample of 8 bits, with PVTYPE and IMODE.
+fn parts(pvtype: &str, imode: char) -> Case {
+    let first = format!("0000000100000001{pvtype}MONO    VIS     08R");
+    let third = format!("{imode}000100010001000108");
+    let parts = [first, "NC".to_string(), third].map(String::into_bytes);
+    Case::ReadSubheader { parts, bands: 1 }
+}
+
+fn named_values() {
+    for text in ["  B", " B ", "B\t\t", " SI", "SI\n"] {
+        show(&format!("PVTYPE {text:?}"), original::pixel_value(text), &parts(text, 'B'));
+    }
+    show("IMODE 'b'", original::mode('b'), &parts("INT", 'b'));
 }
 
 fn whole_block() {
@@ -108,7 +126,7 @@ fn whole_block() {
 
 fn frames() {
     let frame = |grid| Box::new(Case::Frame { grid, calls: vec![Call::Finish] });
-    let lent = Lent { output: 0, image: 1, marks: 1 };
+    let lent = Lent { image: 1, marks: 1, ..Lent::default() };
     let grids = [
         ("blocks of no column", Grid { nppbh: 0, ..plain() }),
         ("no rows", Grid::new([0, 1], 1, 8, Mode::B, [1, 1])),

@@ -3,6 +3,8 @@
 use cases::{Answer, Area, Call, Case, Grid, Header, Lent, Mode, Pack, UNKNOWN};
 use gezdunar::{Bands, ImageDataMask, InterleaveMode, Refusal, Reordered, Shape, Window};
 
+use crate::subheader;
+
 pub fn answer(case: &Case) -> Answer {
     let lent = Lent::of(case);
     match case.call() {
@@ -32,11 +34,13 @@ pub fn answer(case: &Case) -> Answer {
             with_output(&lent, |out| reordered(gezdunar::from_band_sequential, pack, data, out))
         }
         Case::Select { pack, data, bands, .. } => with_output(&lent, |out| selected(pack, data, asked(bands), out)),
+        Case::ReadSubheader { parts, bands } => subheader::read_answer(parts, *bands),
+        Case::WriteSubheader { subheader } => subheader::write_answer(subheader, &lent),
         Case::Lent { .. } => unreachable!("lengths are given once"),
     }
 }
 
-fn imode(mode: Mode) -> InterleaveMode {
+pub fn imode(mode: Mode) -> InterleaveMode {
     match mode {
         Mode::B => InterleaveMode::B,
         Mode::P => InterleaveMode::P,
@@ -45,7 +49,7 @@ fn imode(mode: Mode) -> InterleaveMode {
     }
 }
 
-fn record(grid: &Grid) -> gezdunar::Grid {
+pub fn record(grid: &Grid) -> gezdunar::Grid {
     let Grid { nrows, ncols, bands, nbpp, mode, nppbh, nppbv, nbpr, nbpc } = *grid;
     gezdunar::Grid { nrows, ncols, bands, nbpp, imode: imode(mode), nppbh, nppbv, nbpr, nbpc }
 }
@@ -64,7 +68,7 @@ fn mask(header: &Header) -> ImageDataMask {
     }
 }
 
-fn number(refusal: Refusal) -> u8 {
+pub fn number(refusal: Refusal) -> u8 {
     u8::try_from(refusal.number()).unwrap_or(UNKNOWN)
 }
 
@@ -208,7 +212,7 @@ fn rewrite(grid: &gezdunar::Grid, table: &[u8]) -> Answer {
     with_output(&lent, |out| mask_write(grid, &mask, blocks, pads, out))
 }
 
-/// The two calls are refused alike, or the number is none of document 01's.
+/// The two calls are refused alike, or the number is none of the documents'.
 fn lookup(grid: &gezdunar::Grid, table: &[u8], (row, column): (u32, u32), band: u32) -> Answer {
     let present = gezdunar::has_block(table, grid, row, column, band);
     let offset = gezdunar::get_block_offset(table, grid, row, column, band);

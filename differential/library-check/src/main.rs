@@ -1,13 +1,15 @@
-//! Holds the library against the original, or against the model of document 01. Stops at the first
+//! Holds the library against the original, or against the model of the documents. Stops at the first
 //! difference and prints the smallest input found that shows it.
 //!
-//! `library-check [SEED [CASES]]`: against the original, on the compared domain; CASES random cases of
-//! each kind; 1 and 20000 if not given.
+//! `library-check [SEED [CASES]]`: against the original, on the compared domain, with the enums of a
+//! subheader's fields; CASES random cases of each kind; 1 and 20000 if not given.
 //! `library-check model [SEED [CASES]]`: against the model, also outside the compared domain.
 //! `library-check differences`: small inputs outside the compared domain, and what both do with them.
 
 mod differences;
 mod library;
+mod subheader;
+mod types;
 
 use std::process::ExitCode;
 
@@ -23,10 +25,14 @@ fn main() -> ExitCode {
             ExitCode::SUCCESS
         }
         Some("model") => {
-            let model = Side::new("document 01", |case| Some(model::answer(case)));
+            let model = Side::new("the model", |case| Some(model::answer(case)));
             run(Comparison::new([library, model]), Domain::Any, &words[1..])
         }
         _ => {
+            if let Err(difference) = types::compare() {
+                println!("{difference}");
+                return ExitCode::FAILURE;
+            }
             let original = Side::new("the original", original::answer);
             run(Comparison::new([library, original]), Domain::Compared, &words)
         }

@@ -8,14 +8,14 @@ use cases::{Answer, Area, Call, Case, Grid, Header, Mode, Pack};
 
 use crate::{Encoder, ImageDataMask, Refusal};
 
-/// None where the original has no answer: a whole block in S, lent buffers.
+/// None where the original has no answer: a whole block in S, a subheader, lent buffers.
 pub fn answer(case: &Case) -> Option<Answer> {
     let answer = match case {
         Case::Read { grid, image, row, column, level, bands } => {
             crate::decode_block(grid, image, *row, *column, *level, bands.as_deref())
                 .map(|(bytes, shape)| accepted(shape.map(u64::from).to_vec(), bytes))
         }
-        Case::Lent { .. } => return None,
+        Case::Lent { .. } | Case::ReadSubheader { .. } | Case::WriteSubheader { .. } => return None,
         Case::Whole { grid, .. } if grid.mode == Mode::S => return None,
         Case::Whole { grid, image, row, column } => whole(grid, image, *row, *column),
         Case::Window { grid, image, area, bands } => window(grid, image, *area, bands.as_deref()),

@@ -4,6 +4,7 @@
 //! it, is a `Refusal`.
 
 mod answer;
+mod fields;
 mod refusal;
 
 // The modules of the original and the stand-ins. See build.rs.
@@ -22,6 +23,7 @@ use owned_buffer::OwnedBuffer;
 use refusal::guarded;
 
 pub use answer::answer;
+pub use fields::{justification, justification_letter, mode, mode_letter, pixel_value, pixel_value_text};
 pub use jbp::image::mask::ImageDataMask;
 pub use refusal::{silence_panics, Refusal};
 

@@ -7,6 +7,7 @@ fn small() -> Size {
     Size {
         picture: 5,
         block: 3,
+        long: 0,
         bands: 3,
         list: 3,
         calls: 4,
@@ -31,7 +32,11 @@ fn grid(case: &Case) -> Option<&Grid> {
         | Case::MaskWrite { grid, .. }
         | Case::Lookup { grid, .. }
         | Case::FromMarks { grid, .. } => Some(grid),
-        Case::ToSequential { .. } | Case::FromSequential { .. } | Case::Select { .. } => None,
+        Case::ToSequential { .. }
+        | Case::FromSequential { .. }
+        | Case::Select { .. }
+        | Case::ReadSubheader { .. }
+        | Case::WriteSubheader { .. } => None,
         Case::Lent { case, .. } => grid(case),
     }
 }

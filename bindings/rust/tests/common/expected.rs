@@ -1,6 +1,10 @@
-//! Answers of document 01 that follow from the grid and the lengths, the marks or the table, computed here.
+//! Answers of document 01 that follow from the grid and the lengths, the marks or the table, and those of the reader of
+//! a subheader, computed here.
 
-use gezdunar::{Grid, ImageDataMask, InterleaveMode, Parsed, Refusal, EMPTY_BLOCK_OFFSET};
+use gezdunar::{
+    Grid, ImageCompression, ImageDataMask, ImageSubheader, InterleaveMode, Parsed, PixelJustification, PixelValueType,
+    Refusal, EMPTY_BLOCK_OFFSET,
+};
 
 /// A product of counts of an accepted grid.
 fn product(counts: &[u32]) -> usize {
@@ -138,4 +142,41 @@ pub fn lookup(table: &[u8], grid: &Grid, row: u32, column: u32, band: u32) -> Re
     let offset = number(table, 10 + usize::from(mask.pad_pixel_code_length.div_ceil(8)) + 4 * record, 4);
     let given = (offset != EMPTY_BLOCK_OFFSET).then_some(offset);
     Ok((given.is_some(), given))
+}
+
+/// The number that a part's digits give.
+fn digits(part: &[u8], from: usize, bytes: usize) -> Result<u32, Refusal> {
+    let digits = &part[from..from + bytes];
+    let number = |number: u32, digit: &u8| number * 10 + u32::from(digit - b'0');
+    digits.iter().all(u8::is_ascii_digit).then(|| digits.iter().fold(0, number)).ok_or(Refusal::SubheaderPart)
+}
+
+/// A part's text.
+fn text(part: &[u8], from: usize, bytes: usize) -> Result<&str, Refusal> {
+    std::str::from_utf8(&part[from..from + bytes]).map_err(|_| Refusal::NamedValue)
+}
+
+/// A side of a block as it is meant.
+fn side(field: u32, blocks: u32, picture: u32) -> u32 {
+    match (field, blocks) {
+        (0, 1) => picture,
+        _ => field,
+    }
+}
+
+pub fn subheader_read(first: &[u8], second: &[u8], third: &[u8], bands: u32) -> Result<ImageSubheader, Refusal> {
+    if (first.len(), second.len(), third.len()) != (38, 2, 19) {
+        return Err(Refusal::SubheaderPart);
+    }
+    let (nrows, ncols, abpp) = (digits(first, 0, 8)?, digits(first, 8, 8)?, digits(first, 35, 2)?);
+    let (nbpr, nbpc, nbpp) = (digits(third, 1, 4)?, digits(third, 5, 4)?, digits(third, 17, 2)?);
+    let (nppbh, nppbv) = (side(digits(third, 9, 4)?, nbpr, ncols), side(digits(third, 13, 4)?, nbpc, nrows));
+    let pvtype = text(first, 16, 3)?.parse::<PixelValueType>()?;
+    let pjust = text(first, 37, 1)?.parse::<PixelJustification>()?;
+    let ic = text(second, 0, 2)?.parse::<ImageCompression>()?;
+    let imode = text(third, 0, 1)?.parse::<InterleaveMode>().map_err(|_| Refusal::NamedValue)?;
+    let grid = Grid { nrows, ncols, bands, nbpp, imode, nppbh, nppbv, nbpr, nbpc };
+    grid.check()?;
+    let [irep, icat] = [19, 27].map(|from| std::array::from_fn(|i| first[from + i]));
+    Ok(ImageSubheader { pvtype, irep, icat, abpp, pjust, ic, grid })
 }

@@ -1,9 +1,9 @@
-//! What the tests share: buffers of exact size, document 01's picture, refused grids, and a plain picture.
+//! What the tests share: buffers of exact size, document 01's picture, refused grids, a plain picture and a subheader.
 #![allow(dead_code)]
 
 pub mod expected;
 
-use gezdunar::{Grid, InterleaveMode, Shape};
+use gezdunar::{Grid, ImageCompression, ImageSubheader, InterleaveMode, PixelJustification, PixelValueType, Shape};
 
 /// The widths that question 2 takes.
 pub const WIDTHS: [u32; 29] =
@@ -33,6 +33,19 @@ pub fn refused_grids() -> [(Grid, u32); 4] {
         (Grid { nbpr: 1, ..grid }, 3),
         (Grid::new(99_999, 99_999, 1, 8, InterleaveMode::P, 8192, 8192), 4),
     ]
+}
+
+/// A subheader of a grid.
+pub fn subheader(grid: Grid) -> ImageSubheader {
+    ImageSubheader {
+        pvtype: PixelValueType::UnsignedInt,
+        irep: *b"MULTI   ",
+        icat: *b"MS      ",
+        abpp: 8,
+        pjust: PixelJustification::Right,
+        ic: ImageCompression::NC,
+        grid,
+    }
 }
 
 pub fn shape(bands: usize, rows: usize, columns: usize) -> Shape {

@@ -32,6 +32,12 @@ fn help_is_shown_for_the_tool_and_for_each_command() {
         assert_eq!(place.run(&format!("help {name}")).done(), text);
         assert_eq!(place.run(&format!("{name} --rows x -h")).done(), text);
     }
+    let text = place.run("subheader --help").done();
+    assert!(
+        text.starts_with("gezdunar subheader: ") && text.contains("--bands N") && text.contains("example"),
+        "{text}"
+    );
+    assert_eq!(place.run("help subheader").done(), text);
     assert_eq!(place.run("--version").done(), concat!("gezdunar ", env!("CARGO_PKG_VERSION"), "\n"));
 }
 

@@ -48,11 +48,11 @@ fn an_output_that_is_the_input_is_refused() {
     let place = place();
     for name in ["image", "./image", "../image"] {
         let name = name.replace("..", &place.path("").to_string_lossy());
-        place.run(&block(&format!("--output {name}"))).failed(2, &["--output: ", " is the file that is read"]);
+        place.run(&block(&format!("--output {name}"))).failed(2, &["--output: ", " is a file that is read"]);
     }
-    place.run(&block("--list 0 --preview image")).failed(2, &["--preview: image is the file that is read"]);
+    place.run(&block("--list 0 --preview image")).failed(2, &["--preview: image is a file that is read"]);
     let grid = options(&small(InterleaveMode::B));
-    place.run(&format!("pack --input image --output image {grid}")).failed(2, &["is the file that is read"]);
+    place.run(&format!("pack --input image --output image {grid}")).failed(2, &["is a file that is read"]);
     assert_eq!((place.get("image"), place.names()), (counting(64).to_vec(), vec!["image".to_owned()]));
 }
 
@@ -82,7 +82,7 @@ fn a_link_is_followed_and_permissions_are_kept() {
     assert_eq!((target.is_file(), target.permissions().mode() & 0o777), (true, 0o640));
     assert!(fs::symlink_metadata(place.path("link")).expect("the link is there").is_symlink());
     symlink("image", place.path("same")).expect("a link can be made");
-    place.run(&block("--output same")).failed(2, &["is the file that is read"]);
+    place.run(&block("--output same")).failed(2, &["is a file that is read"]);
     symlink("nothing", place.path("lost")).expect("a link can be made");
     place.run(&block("--output lost")).failed(3, &["cannot write lost: No such file"]);
     assert_eq!(place.names(), ["image", "link", "lost", "same", "target"]);

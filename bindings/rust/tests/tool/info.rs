@@ -48,12 +48,24 @@ fn the_sizes_at_12_bits() {
     assert_eq!((value(&text, "actual rows"), value(&text, "actual columns")), ("11", "29"));
 }
 
+/// Question 1.
+const ONE: &str = "Are NROWS and NCOLS 1 to 99,999,999, NPPBH 1 to 8,192 or NCOLS, NPPBV 1 to 8,192 or NROWS, bands";
+
+#[test]
+fn one_block_of_any_size() {
+    let grid = Grid::new(9_000, 10_000, 1, 1, InterleaveMode::B, 10_000, 9_000);
+    let text = Place::new().run(&format!("info {}", options(&grid))).done();
+    let names = ["rows of a block", "columns of a block", "blocks in all", "bytes of the image"];
+    assert_eq!(names.map(|name| value(&text, name)), ["9000", "10000", "1", "11250000"]);
+}
+
 #[test]
 fn a_refused_grid_is_told_in_words() {
     let grid = small(InterleaveMode::P);
     let cases = [
-        (Grid { nrows: 0, ..grid }, 1, "Are NROWS and NCOLS 1 to 99,999,999, NPPBH", "NROWS 0, NCOLS 5, bands 2"),
-        (Grid { nppbh: 0, ..grid }, 1, "Are NROWS and NCOLS 1 to 99,999,999, NPPBH", "NPPBH 0, NPPBV 2, NBPR 0"),
+        (Grid { nrows: 0, ..grid }, 1, ONE, "NROWS 0, NCOLS 5, bands 2"),
+        (Grid { nppbh: 0, ..grid }, 1, ONE, "NPPBH 0, NPPBV 2, NBPR 0"),
+        (Grid { nppbh: 8193, ..grid }, 1, ONE, "NPPBH 8193, NPPBV 2"),
         (Grid { nbpp: 17, ..grid }, 2, "Is NBPP 1 to 16, 24 to 32, 40, 48, 56 or 64?", "NBPP 17"),
         (Grid::new(1, 10_000, 1, 8, InterleaveMode::B, 1, 1), 3, "Is NBPR = NCOLS / NPPBH", "NBPR 10000"),
         (Grid::new(99_999, 99_999, 1, 8, InterleaveMode::P, 8192, 8192), 4, "Is the image at most", "NROWS 99999"),

@@ -11,3 +11,4 @@ mod pack;
 mod place;
 mod preview;
 mod reads;
+mod subheader;

@@ -1,6 +1,6 @@
 //! A directory for a test's files, and runs of the tool in it.
 
-use gezdunar::Grid;
+use gezdunar::{Grid, ImageSubheader};
 use std::path::PathBuf;
 use std::process::{Command, Output, Stdio};
 use std::sync::atomic::{AtomicU32, Ordering};
@@ -79,6 +79,17 @@ pub fn options(grid: &Grid) -> String {
     let Grid { nrows, ncols, bands, nbpp, imode, nppbh, nppbv, .. } = grid;
     let block = format!("--block-rows {nppbv} --block-columns {nppbh}");
     format!(" --rows {nrows} --columns {ncols} --bands {bands} --bits {nbpp} --mode {imode} {block} ")
+}
+
+/// Bytes in hexadecimal.
+pub fn hex(bytes: &[u8]) -> String {
+    bytes.iter().map(|byte| format!("{byte:02X}")).collect()
+}
+
+/// The options of a grid by the parts of a subheader, in hexadecimal.
+pub fn parts(subheader: &ImageSubheader) -> String {
+    let (first, second, third) = subheader.to_parts().expect("the subheader is accepted");
+    format!(" --bands {} --parts {},{},{} ", subheader.grid.bands, hex(&first), hex(&second), hex(&third))
 }
 
 /// What a run left.

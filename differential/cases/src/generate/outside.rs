@@ -1,17 +1,19 @@
 //! Cases changed so that they may leave the compared domain: a field of the grid, an argument, the
 //! lengths of the lent buffers.
 
-use crate::{Area, Call, Case, Grid, Header, Lent, Pack, Source};
+use super::Size;
+use crate::{Area, Call, Case, Grid, Header, Lent, Pack, Source, Subheader};
 
-/// Most bytes and words of a frame's lent buffers.
+/// Most bytes and words of a frame's lent buffers, and with a long side.
 const MOST: u64 = 4096;
+const MOST_LONG: u64 = 1 << 19;
 
 /// Up to two changes, and other lengths.
-pub fn changed(mut case: Case, from: &mut Source) -> Case {
+pub fn changed(mut case: Case, from: &mut Source, size: &Size) -> Case {
     for _ in 0..from.below(3) {
         change(&mut case, from);
     }
-    lent(case, from)
+    lent(case, from, if size.long == 0 { MOST } else { MOST_LONG })
 }
 
 /// A number near another, or at a limit.
@@ -36,6 +38,15 @@ fn replace(from: &mut Source, mut fields: Vec<&mut u32>) {
 fn fields(g: &mut Grid) -> Vec<&mut u32> {
     let sizes = [&mut g.nrows, &mut g.ncols, &mut g.bands, &mut g.nbpp];
     sizes.into_iter().chain([&mut g.nppbh, &mut g.nppbv, &mut g.nbpr, &mut g.nbpc]).collect()
+}
+
+/// One field, or the sides of a block exchanged.
+fn grid(g: &mut Grid, from: &mut Source) {
+    if from.below(9) == 8 {
+        std::mem::swap(&mut g.nppbh, &mut g.nppbv);
+    } else {
+        replace(from, fields(g));
+    }
 }
 
 fn pack_fields(p: &mut Pack) -> Vec<&mut u32> {
@@ -85,9 +96,10 @@ fn change(case: &mut Case, from: &mut Source) {
         | Case::MaskWrite { grid: g, .. }
         | Case::Lookup { grid: g, .. }
         | Case::FromMarks { grid: g, .. }
+        | Case::WriteSubheader { subheader: Subheader { grid: g, .. } }
             if in_grid =>
         {
-            replace(from, fields(g));
+            grid(g, from);
         }
         case => argument(case, from),
     }
@@ -109,6 +121,7 @@ fn argument(case: &mut Case, from: &mut Source) {
         {
             bytes(data, from);
         }
+        Case::ReadSubheader { parts, .. } if in_data => bytes(&mut parts[from.below(3) as usize], from),
         Case::MaskWrite { blocks, pads, .. } if in_data => {
             list([blocks, pads][from.below(2) as usize], from, |from| number(from, 7));
         }
@@ -135,7 +148,18 @@ fn counted(case: &mut Case, from: &mut Source) {
         Case::ToSequential { pack, .. } | Case::FromSequential { pack, .. } | Case::Select { pack, .. } => {
             replace(from, pack_fields(pack))
         }
+        Case::ReadSubheader { parts, .. } if in_list => digit(&mut parts[from.below(3) as usize], from),
+        Case::ReadSubheader { bands, .. } => replace(from, vec![bands]),
+        Case::WriteSubheader { subheader } => replace(from, vec![&mut subheader.abpp]),
         Case::Parse { .. } | Case::Rewrite { .. } | Case::Lent { .. } => {}
+    }
+}
+
+/// A byte becomes a digit.
+fn digit(part: &mut [u8], from: &mut Source) {
+    let i = from.below(part.len() as u64 + 1) as usize;
+    if let Some(byte) = part.get_mut(i) {
+        *byte = b'0' + from.below(10) as u8;
     }
 }
 
@@ -170,13 +194,19 @@ fn length(from: &mut Source, exact: u64) -> u64 {
     }
 }
 
-fn lent(case: Case, from: &mut Source) -> Case {
+fn lent(case: Case, from: &mut Source, most: u64) -> Case {
     let exact = Lent::of(&case);
     let lent = match case {
         Case::Frame { .. } => {
-            Lent { output: 0, image: length(from, exact.image.min(MOST)), marks: length(from, exact.marks.min(MOST)) }
+            let image = length(from, exact.image.min(most));
+            Lent { image, marks: length(from, exact.marks.min(most)), ..exact }
         }
-        Case::Whole { .. } | Case::Parse { .. } | Case::Rewrite { .. } | Case::Lookup { .. } => exact,
+        Case::WriteSubheader { .. } => Lent { parts: exact.parts.map(|part| length(from, part)), ..exact },
+        Case::Whole { .. }
+        | Case::Parse { .. }
+        | Case::Rewrite { .. }
+        | Case::Lookup { .. }
+        | Case::ReadSubheader { .. } => exact,
         _ => Lent { output: length(from, exact.output), ..exact },
     };
     Case::Lent { case: Box::new(case), lent }

@@ -1,7 +1,7 @@
 //! The model's answer to a case.
 
-use super::{frame, mask, read, reorder};
-use crate::{Answer, Call, Case, Grid, Header, Lent};
+use super::{frame, mask, read, reorder, subheader};
+use crate::{Answer, Call, Case, Grid, Header, Lent, Subheader};
 
 pub fn answer(case: &Case) -> Answer {
     lent_answer(case.call(), &Lent::of(case))
@@ -39,6 +39,8 @@ pub fn lent_answer(case: &Case, lent: &Lent) -> Answer {
         Case::Select { pack, data, bands, .. } => {
             with_output(lent, |out| (reorder::select(pack, data, bands.as_deref(), out), Vec::new()))
         }
+        Case::ReadSubheader { parts, bands } => read_subheader(parts, *bands),
+        Case::WriteSubheader { subheader } => write_subheader(subheader, lent),
         Case::Lent { .. } => unreachable!("lengths are given once"),
     }
 }
@@ -48,6 +50,17 @@ fn with_output(lent: &Lent, call: impl FnOnce(&mut [u8]) -> (u8, Vec<u64>)) -> A
     let mut bytes = lent.output();
     let (number, values) = call(&mut bytes);
     Answer { number, values: if number == 0 { values } else { Vec::new() }, bytes }
+}
+
+fn read_subheader(parts: &[Vec<u8>; 3], bands: u32) -> Answer {
+    let parts = parts.each_ref().map(Vec::as_slice);
+    subheader::read(parts, bands).map_or_else(Answer::refused, |subheader| subheader.answer())
+}
+
+fn write_subheader(subheader: &Subheader, lent: &Lent) -> Answer {
+    let mut outputs = lent.parts();
+    let number = subheader::write(subheader, &mut outputs);
+    Answer { number, values: Vec::new(), bytes: outputs.concat() }
 }
 
 fn lengths(h: &Header) -> [u64; 3] {

@@ -1,18 +1,16 @@
 //! The questions that more than one call asks.
 
 use super::layout;
-use crate::Grid;
+use crate::{Grid, BLOCK_SIDE};
+
+/// Question 1 of a side of the picture and of the same side of a block, which may be longer if it is the picture's.
+fn sides(picture: u32, block: u32) -> bool {
+    (1..=99_999_999).contains(&picture) && ((1..=BLOCK_SIDE).contains(&block) || block == picture)
+}
 
 /// Questions 1 to 4.
 pub fn grid(g: &Grid) -> u8 {
-    let side = 1..=99_999_999;
-    let block_side = 1..=8_192;
-    if !(side.contains(&g.nrows)
-        && side.contains(&g.ncols)
-        && block_side.contains(&g.nppbh)
-        && block_side.contains(&g.nppbv)
-        && (1..=99_999).contains(&g.bands))
-    {
+    if !(sides(g.nrows, g.nppbv) && sides(g.ncols, g.nppbh) && (1..=99_999).contains(&g.bands)) {
         return 1;
     }
     if !matches!(g.nbpp, 1..=16 | 24..=32 | 40 | 48 | 56 | 64) {

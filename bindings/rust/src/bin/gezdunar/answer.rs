@@ -8,7 +8,6 @@ use crate::preview;
 use crate::streams;
 use crate::words::count;
 use gezdunar::{Bands, Shape};
-use std::path::Path;
 
 /// The options of an answer.
 pub const OPTIONS: [Known; 4] = [optional("--list"), optional("--output"), optional("--preview"), flag("--stretch")];
@@ -75,8 +74,9 @@ pub struct Answer {
 
 impl Answer {
     /// The answer that the options give. The place of a file is looked at, but nothing is written.
-    pub fn new(given: &Given, picture: &Picture, input: &Path) -> Result<Answer, Failure> {
+    pub fn new(given: &Given, picture: &Picture) -> Result<Answer, Failure> {
         let list = List::new(given)?;
+        let inputs = given.files(&["--image", "--parts-file"]);
         let stretch = given.has("--stretch");
         let form = match (given.value("--output"), given.value("--preview")) {
             (Some(_), Some(_)) => {
@@ -85,10 +85,10 @@ impl Answer {
             }
             (_, None) if stretch => return Err(Failure::Arguments("--stretch is only for --preview".to_owned())),
             (None, None) => Form::Numbers,
-            (Some(place), None) => Form::Raw(Output::new("--output", place, input)?),
+            (Some(place), None) => Form::Raw(Output::new("--output", place, &inputs)?),
             (None, Some(place)) => {
                 preview::check(place, list.bands().count(picture.grid.bands))?;
-                Form::Preview { output: Output::new("--preview", place, input)?, stretch }
+                Form::Preview { output: Output::new("--preview", place, &inputs)?, stretch }
             }
         };
         Ok(Answer { list, form })

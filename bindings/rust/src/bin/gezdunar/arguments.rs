@@ -2,7 +2,11 @@
 
 use crate::failure::Failure;
 use std::ffi::{OsStr, OsString};
+use std::path::Path;
 use std::slice::Iter;
+
+/// The most bytes that a file has.
+const FILE: u64 = i64::MAX as u64;
 
 /// How an option may be given.
 #[derive(Debug, Clone, Copy, PartialEq, Eq)]
@@ -23,6 +27,15 @@ pub struct Known {
     /// The name, with its two hyphens.
     pub name: &'static str,
     kind: Kind,
+    /// Options that may be given in its place, and not beside it.
+    others: &'static [&'static str],
+}
+
+impl Known {
+    /// The option, in whose place one of these may be given, and not beside it.
+    pub const fn or(self, others: &'static [&'static str]) -> Known {
+        Known { others, ..self }
+    }
 }
 
 /// The options that a command takes.
@@ -30,22 +43,22 @@ pub type Options = &'static [&'static [Known]];
 
 /// An option that must be given.
 pub const fn required(name: &'static str) -> Known {
-    Known { name, kind: Kind::Required }
+    Known { name, kind: Kind::Required, others: &[] }
 }
 
 /// An option that may be left out.
 pub const fn optional(name: &'static str) -> Known {
-    Known { name, kind: Kind::Optional }
+    Known { name, kind: Kind::Optional, others: &[] }
 }
 
 /// An option that may be given any number of times.
 pub const fn repeated(name: &'static str) -> Known {
-    Known { name, kind: Kind::Repeated }
+    Known { name, kind: Kind::Repeated, others: &[] }
 }
 
 /// An option without a value.
 pub const fn flag(name: &'static str) -> Known {
-    Known { name, kind: Kind::Flag }
+    Known { name, kind: Kind::Flag, others: &[] }
 }
 
 /// The options that were given, with their values.
@@ -55,7 +68,8 @@ pub struct Given {
 }
 
 impl Given {
-    /// Reads a command's arguments: only options that it takes, each with its value, and all that it requires.
+    /// Reads a command's arguments: only options that it takes and that can stand together, each with its value, and
+    /// all that it requires.
     pub fn read(arguments: &[OsString], options: Options) -> Result<Given, Failure> {
         let mut given = Given { values: Vec::new() };
         let mut rest = arguments.iter();
@@ -67,16 +81,30 @@ impl Given {
             let value = value(known, joined, &mut rest)?;
             given.values.push((known.name, value));
         }
+        given.nothing_in_two_ways(options)?;
         given.nothing_missing(options)?;
         Ok(given)
     }
 
+    fn nothing_in_two_ways(&self, options: Options) -> Result<(), Failure> {
+        let given = all(options).filter(|known| self.has(known.name));
+        let mut pairs = given.flat_map(|known| known.others.iter().map(|other| (known.name, *other)));
+        match pairs.find(|(_, other)| self.has(other)) {
+            None => Ok(()),
+            Some((name, other)) => {
+                let why = "one is given in the place of the other";
+                Err(Failure::Arguments(format!("{name} and {other} cannot stand together: {why}")))
+            }
+        }
+    }
+
     fn nothing_missing(&self, options: Options) -> Result<(), Failure> {
-        let required = options.iter().flat_map(|part| part.iter()).filter(|known| known.kind == Kind::Required);
-        let missing: Vec<&str> = required.map(|known| known.name).filter(|name| !self.has(name)).collect();
+        let required = all(options).filter(|known| known.kind == Kind::Required);
+        let needed = required.filter(|known| !known.others.iter().any(|other| self.has(other)));
+        let missing: Vec<&str> = needed.map(|known| known.name).filter(|name| !self.has(name)).collect();
         match missing.as_slice() {
             [] => Ok(()),
-            [name] => Err(Failure::Arguments(format!("{name} is missing"))),
+            [name] => Err(missing_one(name)),
             [names @ .., last] => Err(Failure::Arguments(format!("{} and {last} are missing", names.join(", ")))),
         }
     }
@@ -98,7 +126,12 @@ impl Given {
 
     /// The value of an option that must be given.
     pub fn needed(&self, name: &str) -> Result<&OsStr, Failure> {
-        self.value(name).ok_or_else(|| Failure::Arguments(format!("{name} is missing")))
+        self.value(name).ok_or_else(|| missing_one(name))
+    }
+
+    /// The files that options name, in the order of the options here.
+    pub fn files(&self, names: &[&str]) -> Vec<&Path> {
+        names.iter().filter_map(|name| self.value(name)).map(Path::new).collect()
     }
 
     /// The number of an option that must be given.
@@ -108,9 +141,18 @@ impl Given {
 
     /// The count of bytes of an option, or another where it is not given.
     pub fn bytes(&self, name: &str, otherwise: u64) -> Result<u64, Failure> {
-        // A file has at most i64::MAX bytes.
-        self.value(name).map_or(Ok(otherwise), |text| whole(name, text, i64::MAX as u64))
+        self.value(name).map_or(Ok(otherwise), |text| whole(name, text, FILE))
     }
+}
+
+/// All options that a command takes.
+fn all(options: Options) -> impl Iterator<Item = &'static Known> {
+    options.iter().flat_map(|part| part.iter())
+}
+
+/// The failure of an option that is not given.
+pub fn missing_one(name: &str) -> Failure {
+    Failure::Arguments(format!("{name} is missing"))
 }
 
 /// The option that an argument names, and the value after its equals sign.
@@ -124,7 +166,7 @@ fn option(argument: &OsStr, options: Options) -> Result<(&'static Known, Option<
         Some((name, value)) => (name, Some(OsString::from(value))),
         None => (text, None),
     };
-    let known = options.iter().flat_map(|part| part.iter()).find(|known| known.name == name);
+    let known = all(options).find(|known| known.name == name);
     known.map(|known| (known, joined)).ok_or_else(|| Failure::Arguments(format!("there is no option {name}")))
 }
 
@@ -161,6 +203,15 @@ pub fn pair(name: &str, text: &OsStr) -> Result<(u32, u32), Failure> {
         [row, column] => Ok((*row, *column)),
         _ => Err(Failure::Arguments(format!("{name}: '{}' is not ROW,COLUMN", text.to_string_lossy()))),
     }
+}
+
+/// Three offsets in a file with commas between.
+pub fn offsets(name: &str, text: &OsStr) -> Result<[u64; 3], Failure> {
+    let shown = text.to_string_lossy();
+    let numbers: Vec<u64> =
+        shown.split(',').map(|part| whole(name, OsStr::new(part), FILE)).collect::<Result<_, Failure>>()?;
+    <[u64; 3]>::try_from(numbers)
+        .map_err(|_| Failure::Arguments(format!("{name}: '{shown}' is not three offsets A,B,C")))
 }
 
 /// A whole number up to `most`, in digits.

@@ -4,6 +4,7 @@ mod block;
 mod info;
 mod mask;
 mod pack;
+mod subheader;
 mod window;
 
 use crate::arguments::{Given, Options};
@@ -25,4 +26,5 @@ pub struct Command {
 }
 
 /// The commands, in the order of the help.
-pub const COMMANDS: [&Command; 5] = [&info::COMMAND, &block::COMMAND, &window::COMMAND, &pack::COMMAND, &mask::COMMAND];
+pub const COMMANDS: [&Command; 6] =
+    [&info::COMMAND, &block::COMMAND, &window::COMMAND, &pack::COMMAND, &mask::COMMAND, &subheader::COMMAND];

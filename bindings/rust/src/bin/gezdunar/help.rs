@@ -16,9 +16,10 @@ commands:
 
 const TAIL: &str = "
 A picture is described by its grid: rows, columns, bands, bits of a sample, mode
-and the sides of a block. All of it is given as options, nothing is guessed.
-An option is written --name VALUE or --name=VALUE. Rows, columns, bands and
-blocks are counted from 0.
+and the sides of a block. All of it is given as options, or the bands as an
+option and the rest by three parts of an image subheader; nothing is guessed. An
+option is written --name VALUE or --name=VALUE. Rows, columns, bands and blocks
+are counted from 0.
 
 exit codes: 0  done
             1  refused: the number, its question and the facts are printed
@@ -31,7 +32,7 @@ that is killed while it writes may leave a file .gezdunar-*.part there.
 
 /// The help of the tool.
 pub fn overview() -> String {
-    let line = |command: &&Command| format!("  {:8}{}\n", command.name, command.summary);
+    let line = |command: &&Command| format!("  {:11}{}\n", command.name, command.summary);
     format!("{HEAD}{}{TAIL}", COMMANDS.iter().map(line).collect::<String>())
 }
 

@@ -27,8 +27,7 @@ image:
 /// A part of a file that holds an image.
 #[derive(Debug)]
 pub struct Image {
-    /// The file.
-    pub path: PathBuf,
+    path: PathBuf,
     offset: u64,
     length: u64,
 }

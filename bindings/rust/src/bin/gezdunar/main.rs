@@ -10,6 +10,7 @@ mod files;
 mod help;
 mod image;
 mod output;
+mod parts;
 mod picture;
 mod preview;
 mod progress;

@@ -29,7 +29,7 @@ pub enum Output {
 
 impl Output {
     /// Looks whether a file can be made where an option says, `-` being standard output, without making it.
-    pub fn new(option: &str, name: &OsStr, input: &Path) -> Result<Output, Failure> {
+    pub fn new(option: &str, name: &OsStr, inputs: &[&Path]) -> Result<Output, Failure> {
         if name == "-" {
             return Ok(Output::Standard);
         }
@@ -38,7 +38,7 @@ impl Output {
             return Err(Failure::Arguments(format!("{option}: '{}' names no file", path.display())));
         }
         match fs::symlink_metadata(path) {
-            Ok(_) => replacing(option, path, input),
+            Ok(_) => replacing(option, path, inputs),
             Err(error) if error.kind() == ErrorKind::NotFound => in_directory(path),
             Err(error) => Err(Failure::file("write", path, error)),
         }
@@ -66,9 +66,9 @@ impl Output {
     }
 }
 
-/// The output in the place of a file that is there: a regular file, where a link leads, that may be written and is not
-/// the input.
-fn replacing(option: &str, path: &Path, input: &Path) -> Result<Output, Failure> {
+/// The output in the place of a file that is there: a regular file, where a link leads, that may be written and is no
+/// input.
+fn replacing(option: &str, path: &Path, inputs: &[&Path]) -> Result<Output, Failure> {
     let no = |why: &str| Failure::File(format!("cannot write {}: {why}", path.display()));
     let fault = |error| Failure::file("write", path, error);
     let place = path.canonicalize().map_err(fault)?;
@@ -79,8 +79,8 @@ fn replacing(option: &str, path: &Path, input: &Path) -> Result<Output, Failure>
     if !metadata.is_file() {
         return Err(no("it is not a regular file; for standard output write -"));
     }
-    if input.canonicalize().is_ok_and(|input| input == place) {
-        return Err(Failure::Arguments(format!("{option}: {} is the file that is read", path.display())));
+    if inputs.iter().any(|input| input.canonicalize().is_ok_and(|input| input == place)) {
+        return Err(Failure::Arguments(format!("{option}: {} is a file that is read", path.display())));
     }
     if metadata.permissions().readonly() {
         return Err(no("it is read-only"));

@@ -1,24 +1,25 @@
-//! The grid, from its options.
+//! The grid, from its options or from parts of a subheader.
 
 use crate::arguments::{required, Given, Known};
 use crate::failure::Failure;
+use crate::parts::{self, Parts};
 use crate::words::count;
-use gezdunar::{Grid, InterleaveMode, Refusal, Sizes};
+use gezdunar::{Grid, ImageCompression, InterleaveMode, Refusal, Sizes};
 
 /// The options of a grid.
 pub const OPTIONS: [Known; 7] = [
-    required("--rows"),
-    required("--columns"),
+    required("--rows").or(&parts::NAMES),
+    required("--columns").or(&parts::NAMES),
     required("--bands"),
-    required("--bits"),
-    required("--mode"),
-    required("--block-rows"),
-    required("--block-columns"),
+    required("--bits").or(&parts::NAMES),
+    required("--mode").or(&parts::NAMES),
+    required("--block-rows").or(&parts::NAMES),
+    required("--block-columns").or(&parts::NAMES),
 ];
 
 /// What help says of a grid.
 pub const HELP: &str = "\
-grid (all of it must be given):
+grid (all seven options, or --bands with the parts of a subheader):
   --rows N            rows of the picture (NROWS), 1 to 99,999,999
   --columns N         columns of the picture (NCOLS), 1 to 99,999,999
   --bands N           bands of the picture, 1 to 99,999
@@ -29,8 +30,9 @@ grid (all of it must be given):
                       P  pixel after pixel, all bands of a pixel together
                       R  row after row, all bands of a row together
                       S  band after band over the whole image, in blocks
-  --block-rows N      rows of a block (NPPBV), 1 to 8,192
-  --block-columns N   columns of a block (NPPBH), 1 to 8,192
+  --block-rows N      rows of a block (NPPBV), 1 to 8,192, or as many as --rows
+  --block-columns N   columns of a block (NPPBH), 1 to 8,192, or as many as
+                      --columns
   Where the bits are no multiple of 8, a block at the right or lower edge holds
   only its samples inside the picture, without gaps between rows; the standard
   keeps full rows there.
@@ -43,24 +45,35 @@ pub struct Picture {
     pub grid: Grid,
     /// Its sizes.
     pub sizes: Sizes,
+    /// Do the parts say that it is masked?
+    pub masked: bool,
 }
 
 impl Picture {
-    /// The grid that the options give.
+    /// The grid that the options give, or the parts that they name.
     pub fn new(given: &Given) -> Result<Picture, Failure> {
-        let grid = Grid::new(
-            given.number("--rows")?,
-            given.number("--columns")?,
-            given.number("--bands")?,
-            given.number("--bits")?,
-            mode(given)?,
-            given.number("--block-columns")?,
-            given.number("--block-rows")?,
-        );
+        let (grid, masked) = if parts::NAMES.iter().any(|name| given.has(name)) {
+            let subheader = Parts::new(given)?.subheader(given.number("--bands")?)?;
+            (subheader.grid, subheader.ic == ImageCompression::NM)
+        } else {
+            (grid(given)?, false)
+        };
         match grid.sizes() {
-            Ok(sizes) => Ok(Picture { grid, sizes }),
+            Ok(sizes) => Ok(Picture { grid, sizes, masked }),
             Err(refusal) => Err(Failure::Refused(refusal, fields(&grid))),
         }
+    }
+
+    /// The same for a command that takes an image: a masked picture's blocks do not lie where the grid has them.
+    pub fn of_image(given: &Given) -> Result<Picture, Failure> {
+        let picture = Picture::new(given)?;
+        if picture.masked {
+            let what = "masked pictures are neither read nor written by this command yet";
+            return Err(Failure::Arguments(format!(
+                "IC of the parts is NM: {what}; info, mask and subheader take them"
+            )));
+        }
+        Ok(picture)
     }
 
     /// A refusal of a call on this picture, with the facts that it was decided on.
@@ -95,6 +108,19 @@ impl Picture {
         let sides = [count(bands as usize, "band"), count(nrows as usize, "row"), count(ncols as usize, "column")];
         format!("{}, {}, mode {imode}", sides.join(", "), count(nbpp as usize, "bit"))
     }
+}
+
+/// The grid of the seven options.
+fn grid(given: &Given) -> Result<Grid, Failure> {
+    Ok(Grid::new(
+        given.number("--rows")?,
+        given.number("--columns")?,
+        given.number("--bands")?,
+        given.number("--bits")?,
+        mode(given)?,
+        given.number("--block-columns")?,
+        given.number("--block-rows")?,
+    ))
 }
 
 fn mode(given: &Given) -> Result<InterleaveMode, Failure> {

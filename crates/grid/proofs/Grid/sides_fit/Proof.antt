@@ -23,8 +23,8 @@ returns-2 : tie.Need-returns-2
 unfolding q1 every
 returns-2 c = simp (yes (c .before .before .before .within .ensures) (c .before .before .if1 .left), no (c .before .within2 .ensures) (c .if2 .taken))
 
-within-requires-3 : tie.Need-within-requires-3
-within-requires-3 c κs = search needs
+block-side-fits-requires : tie.Need-block-side-fits-requires
+block-side-fits-requires c κs = search needs
 
 returns-3 : tie.Need-returns-3
 unfolding q1 every
@@ -32,11 +32,11 @@ returns-3 c =
     simp (
       yes (c .before .before .before .before .before .within .ensures) (c .before .before .before .before .if1 .left),
       yes (c .before .before .before .within2 .ensures) (c .before .before .if2 .left),
-      no (c .before .within3 .ensures) (c .if3 .taken),
+      no (c .before .block-side-fits .ensures) (c .if3 .taken),
     )
 
-within-requires-4 : tie.Need-within-requires-4
-within-requires-4 c κs = search needs
+block-side-fits-requires-2 : tie.Need-block-side-fits-requires-2
+block-side-fits-requires-2 c κs = search needs
 
 returns-4 : tie.Need-returns-4
 unfolding q1 every
@@ -47,12 +47,12 @@ returns-4 c =
     simp (
       yes (first .before .within .ensures) (first .if1 .left),
       yes (second .before .within2 .ensures) (second .if2 .left),
-      yes (third .before .within3 .ensures) (third .if3 .left),
-      no (c .before .within4 .ensures) (c .if4 .taken),
+      yes (third .before .block-side-fits .ensures) (third .if3 .left),
+      no (c .before .block-side-fits2 .ensures) (c .if4 .taken),
     )
 
-within-requires-5 : tie.Need-within-requires-5
-within-requires-5 c κs = search needs
+within-requires-3 : tie.Need-within-requires-3
+within-requires-3 c κs = search needs
 
 returns-5 : tie.Need-returns-5
 unfolding q1 every
@@ -63,10 +63,10 @@ returns-5 c =
     simp (
       yes (first .before .within .ensures) (first .if1 .left),
       yes (second .before .within2 .ensures) (second .if2 .left),
-      yes (third .before .within3 .ensures) (third .if3 .left),
-      yes (c .before .before .within4 .ensures) (c .before .if4 .left),
+      yes (third .before .block-side-fits .ensures) (third .if3 .left),
+      yes (c .before .before .block-side-fits2 .ensures) (c .before .if4 .left),
     )
-    (c .within5 .ensures ∙ every-last _)
+    (c .within3 .ensures ∙ every-last _)
 
 pub sides-fit-spec : {M : Type 1} → statement M
 sides-fit-spec =
@@ -76,9 +76,9 @@ sides-fit-spec =
     returns
     within-requires-2
     returns-2
-    within-requires-3
+    block-side-fits-requires
     returns-3
-    within-requires-4
+    block-side-fits-requires-2
     returns-4
-    within-requires-5
+    within-requires-3
     returns-5)

@@ -3,36 +3,39 @@
 use super::Command;
 use crate::arguments::Given;
 use crate::failure::Failure;
+use crate::parts;
 use crate::picture::{self, Picture};
 use crate::streams;
-use gezdunar::InterleaveMode;
+use crate::words::{lines, mode};
 
 pub const COMMAND: Command = Command {
     name: "info",
     summary: "shows the blocks and bytes of a grid",
-    help: &[HEAD, picture::HELP, EXAMPLE],
-    options: &[&picture::OPTIONS],
+    help: &[HEAD, picture::HELP, parts::HELP, EXAMPLE],
+    options: &[&picture::OPTIONS, &parts::OPTIONS],
     run,
 };
 
 const HEAD: &str = "\
 usage: gezdunar info GRID
 
-Prints one fact a line. No file is read. A grid that is not accepted is refused
-with 1, 2, 3 or 4.
+Prints one fact a line. No file is read but that of the parts. A grid that is
+not accepted is refused with 1, 2, 3 or 4.
 ";
 
 const EXAMPLE: &str = "\
 example:
   gezdunar info --rows 203 --columns 317 --bands 5 --bits 12 --mode P \\
     --block-rows 64 --block-columns 48
+the same, with the grid from the parts of a subheader:
+  printf '0000020300000317INTMULTI   MS      12RNCP000700040048006412' > parts
+  gezdunar info --bands 5 --part-offsets 0,38,40 --parts-file parts
 ";
 
 fn run(given: &Given) -> Result<(), Failure> {
     let picture = Picture::new(given)?;
-    let line = |(name, value): (&str, String)| format!("{name:36}{value}\n");
-    let facts = shape(&picture).into_iter().chain(bytes(&picture));
-    streams::print(&facts.map(line).collect::<String>())
+    let masked = picture.masked.then(|| ("mask (IC)", "NM, masked; the bytes are those of all blocks".to_owned()));
+    streams::print(&lines(shape(&picture).into_iter().chain(bytes(&picture)).chain(masked)))
 }
 
 /// The picture and its blocks.
@@ -65,13 +68,4 @@ fn bytes(picture: &Picture) -> Vec<(&'static str, String)> {
         ("bytes of the image", sizes.image_bytes.to_string()),
         ("64-bit words for the marks", sizes.mark_words.to_string()),
     ]
-}
-
-fn mode(imode: InterleaveMode) -> &'static str {
-    match imode {
-        InterleaveMode::B => "B, band after band in each block",
-        InterleaveMode::P => "P, pixel after pixel",
-        InterleaveMode::R => "R, row after row",
-        InterleaveMode::S => "S, band after band over the whole image",
-    }
 }

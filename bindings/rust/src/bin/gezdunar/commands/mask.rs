@@ -3,6 +3,7 @@
 use super::Command;
 use crate::arguments::{flag, optional, required, Given, Known};
 use crate::failure::Failure;
+use crate::parts;
 use crate::picture::{self, Picture};
 use crate::{files, streams};
 use gezdunar::{get_block_offset, has_block, mask_parse, InterleaveMode, Parsed, Refusal};
@@ -11,8 +12,8 @@ use std::path::Path;
 pub const COMMAND: Command = Command {
     name: "mask",
     summary: "shows an image data mask table",
-    help: &[HEAD, picture::HELP, EXAMPLE],
-    options: &[&OPTIONS, &picture::OPTIONS],
+    help: &[HEAD, picture::HELP, parts::HELP, EXAMPLE],
+    options: &[&OPTIONS, &picture::OPTIONS, &parts::OPTIONS],
     run,
 };
 
@@ -37,6 +38,10 @@ example, two blocks of which the second is empty:
   printf '\\0\\0\\0\\22\\0\\4\\0\\0\\0\\0\\0\\0\\0\\0\\377\\377\\377\\377' > table
   gezdunar mask --table table --rows 1 --columns 2 --bands 1 --bits 8 --mode B \\
     --block-rows 1 --block-columns 1
+the same, with the grid from the parts of a subheader:
+  printf '0000000100000002INTMONO    VIS     08RNMB000200010001000108' > parts
+  gezdunar mask --table table --bands 1 --part-offsets 0,38,40 \\
+    --parts-file parts
 ";
 
 /// The most blocks across or down of which there is a map.

@@ -5,6 +5,7 @@ use crate::arguments::{optional, pair, repeated, required, Given, Known};
 use crate::failure::Failure;
 use crate::files;
 use crate::output::Output;
+use crate::parts;
 use crate::picture::{self, Picture};
 use crate::progress::Progress;
 use crate::words::count;
@@ -17,8 +18,8 @@ use std::path::{Path, PathBuf};
 pub const COMMAND: Command = Command {
     name: "pack",
     summary: "writes a picture's samples into a blocked image",
-    help: &[HEAD, picture::HELP, TAIL],
-    options: &[&OPTIONS, &picture::OPTIONS],
+    help: &[HEAD, picture::HELP, parts::HELP, TAIL],
+    options: &[&OPTIONS, &picture::OPTIONS, &parts::OPTIONS],
     run,
 };
 
@@ -50,14 +51,19 @@ example:
   gezdunar pack --input picture.raw --output picture.P \\
     --rows 203 --columns 317 --bands 5 --bits 12 --mode P \\
     --block-rows 64 --block-columns 48
+the same, with the grid from the parts of a subheader:
+  printf '0000020300000317INTMULTI   MS      12RNCP000700040048006412' > parts
+  gezdunar pack --input picture.raw --output picture.P \\
+    --bands 5 --part-offsets 0,38,40 --parts-file parts
 ";
 
 fn run(given: &Given) -> Result<(), Failure> {
-    let picture = Picture::new(given)?;
+    let picture = Picture::of_image(given)?;
     let skipped = given.all("--skip").map(|text| pair("--skip", text)).collect::<Result<BTreeSet<_>, _>>()?;
     let mut progress = Progress::new(given, picture.sizes.blocks)?;
     let input = Path::new(given.needed("--input")?);
-    let output = Output::new("--output", given.needed("--output")?, input)?;
+    let inputs = given.files(&["--input", "--parts-file"]);
+    let output = Output::new("--output", given.needed("--output")?, &inputs)?;
     let mut source = Source::open(input, &picture)?;
     let mut frame = started(&picture, &skipped)?;
     write_blocks(&picture, &mut source, &skipped, &mut frame, &mut progress)?;

@@ -5,14 +5,15 @@ use crate::answer::{self, Answer};
 use crate::arguments::{required, Given, Known};
 use crate::failure::Failure;
 use crate::image::{self, Image};
+use crate::parts;
 use crate::picture::{self, Picture};
 use gezdunar::{read_window_vec, Window};
 
 pub const COMMAND: Command = Command {
     name: "window",
     summary: "reads a rectangle of the picture, across blocks",
-    help: &[HEAD, picture::HELP, image::HELP, answer::HELP, EXAMPLE],
-    options: &[&OPTIONS, &picture::OPTIONS, &image::OPTIONS, &answer::OPTIONS],
+    help: &[HEAD, picture::HELP, parts::HELP, image::HELP, answer::HELP, EXAMPLE],
+    options: &[&OPTIONS, &picture::OPTIONS, &parts::OPTIONS, &image::OPTIONS, &answer::OPTIONS],
     run,
 };
 
@@ -35,13 +36,18 @@ example, 40 rows and 60 columns in colour:
     --list 4,2,0 --preview window.ppm --image picture.P \\
     --rows 203 --columns 317 --bands 5 --bits 12 --mode P \\
     --block-rows 64 --block-columns 48
+the same window of a NITF file, in which the image subheader begins at byte 404
+and the image at byte 895, with the grid from that subheader:
+  gezdunar window --row 100 --column 90 --window-rows 40 --window-columns 60 \\
+    --list 4,2,0 --preview window.ppm --image picture.ntf --offset 895 \\
+    --bands 5 --part-offsets 737,777,846
 ";
 
 fn run(given: &Given) -> Result<(), Failure> {
-    let picture = Picture::new(given)?;
+    let picture = Picture::of_image(given)?;
     let window = window(given)?;
     let image = Image::new(given)?;
-    let answer = Answer::new(given, &picture, &image.path)?;
+    let answer = Answer::new(given, &picture)?;
     let block_row = last(window.row, window.rows) / picture.grid.nppbv;
     let block_col = last(window.column, window.columns) / picture.grid.nppbh;
     let bytes = image.read(&picture, block_row, block_col)?;

@@ -1,0 +1,52 @@
+-- `subheader::ImageCompression::from_bytes` meets its contract.
+-- Assumes nothing.
+use borrow.Author.Needs.{needs}
+use mathlib.Core.Path.{sym, _∙_}
+use Rattle.common.specs.Tests.{pick}
+use Rattle.subheader.specs.Named.{valueOf}
+use Rattle.subheader.proofs.ImageCompression.from_bytes.Statement.{statement}
+use Rattle.subheader.proofs.ImageCompression.from_bytes.Tie as tie
+
+slice-aggregate-same-bytes : tie.Need-slice-aggregate-same-bytes
+slice-aggregate-same-bytes c = search needs
+
+same-bytes-requires : tie.Need-same-bytes-requires
+same-bytes-requires c κs = search needs
+
+returns : tie.Need-returns
+unfolding valueOf pick
+returns c = simp (sym (c .before .same-bytes .ensures) ∙ c .if1 .taken)
+
+slice-aggregate-same-bytes-2 : tie.Need-slice-aggregate-same-bytes-2
+slice-aggregate-same-bytes-2 c = search needs
+
+same-bytes-requires-2 : tie.Need-same-bytes-requires-2
+same-bytes-requires-2 c κs = search needs
+
+returns-2 : tie.Need-returns-2
+unfolding valueOf pick
+returns-2 c =
+    simp (
+      sym (c .before .before .before .before .same-bytes .ensures) ∙ c .before .before .before .if1 .left,
+      sym (c .before .same-bytes2 .ensures) ∙ c .if2 .taken,
+    )
+
+returns-3 : tie.Need-returns-3
+unfolding valueOf pick
+returns-3 c =
+    simp (
+      sym (c .before .before .before .before .same-bytes .ensures) ∙ c .before .before .before .if1 .left,
+      sym (c .before .same-bytes2 .ensures) ∙ c .if2 .left,
+    )
+
+pub from-bytes-spec : {M : Type 1} → statement M
+from-bytes-spec =
+    tie.close
+    (tie.spec
+    slice-aggregate-same-bytes
+    same-bytes-requires
+    returns
+    slice-aggregate-same-bytes-2
+    same-bytes-requires-2
+    returns-2
+    returns-3)
