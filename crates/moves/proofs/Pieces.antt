@@ -246,17 +246,18 @@ module _ {l : BlockLayout} {n : ℕ} {p : Part} {bs : Bands} {rows columns m : �
             beside = omega arith;
           }
 
-      pub band-bytes : im .band / 8 ≡ pl .column
+      band-bytes : im .band / 8 ≡ pl .column
       band-bytes = rw (k .image-is, k .planes-are) (omega arith)
 
       -- pixels of them, up to x bands after band b, end inside the image
       pub pixels-end : (b x : ℕ) {at : ℕ} → b + x < l .bands → at ≡ firstAt im b q
-          → at / 8 + x * (im .band / 8) + q .columns .count * (im .column / 8) + pl .column ≤ n + im .column / 8
+          → at / 8 + x * pl .column + q .columns .count * (im .column / 8) + pl .column ≤ n + im .column / 8
       pixels-end b x hb ea =
           let c : ℕ = q .columns .count in
           let some = k .in-part .in-columns .some in
           let w = whole-bytes b in
           let s : 8 * pl .column ≡ l .nbpp = rw size-is (omega arith) in
+          let band : 8 * pl .column ≡ im .band = omega (arith, w .beside, band-bytes) in
           let last = image-in (b + x) 0 (c - 1) hb (k .in-part .in-rows .some) (omega arith) .0 in
           rw ea
           (omega (
@@ -264,6 +265,6 @@ module _ {l : BlockLayout} {n : ℕ} {p : Part} {bs : Bands} {rows columns m : �
             last,
             w .first,
             last-row c (im .column / 8) some,
-            ap (λ (z : ℕ). x * z) (w .beside),
+            ap (λ (z : ℕ). x * z) band,
             ap (λ (z : ℕ). (c - 1) * z) (w .next),
           ))

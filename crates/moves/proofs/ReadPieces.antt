@@ -151,7 +151,7 @@ module _ {l : BlockLayout} (src : List ℕ) {p : Part} {bs : Bands} {rows column
         → ((k : ℕ) → getD list k 0 ≡ bandAt bs k) → q .bands .from ≡ 0 → q .rows .count ≡ 1
         → bandStride (l .mode) l ≡ l .nbpp → l .nbpp % 8 ≡ 0 → at ≡ firstAt im 0 q
         → after ≡ iter (q .columns .count)
-        (pixelRead src list (at / 8) (im .column / 8) (im .band / 8) (pl .column) to (pl .band)) out
+        (pixelRead src list (at / 8) (im .column / 8) (pl .column) to (pl .band)) out
         → Puts (answerTarget l src p bs rows columns) (InPiece q) out after
     pixels-read list {at} {out} bytes eo el eb from one beside whole ea e =
         let ht = to-is in
@@ -184,15 +184,15 @@ module _ {l : BlockLayout} (src : List ℕ) {p : Part} {bs : Bands} {rows column
         (λ k i j a u. omega (arith, u .in-c)))
       where
         pixel : (y : ℕ) → y < q .columns .count → (z : ℕ)
-            → beAt src (at / 8 + y * (im .column / 8) + getD list z 0 * (im .band / 8)) (sampleBytes l)
+            → beAt src (at / 8 + y * (im .column / 8) + getD list z 0 * sampleBytes l) (sampleBytes l)
             ≡ sampleAt l src (bandAt bs z) (p .r + q .rows .from) (p .c + (q .columns .from + y))
         pixel y h z =
             let b : ℕ = getD list z 0 in
             let w = whole-bytes k even beside whole 0 in
             let e8 : 8 * sampleBytes l ≡ l .nbpp = omega arith in
-            let o : 8 * (at / 8 + y * (im .column / 8) + b * (im .band / 8)) ≡ firstAt im b q + 0 * im .row + y *
-            im .column
-            = rw ea (omega (arith, w .first, ap (λ (x : ℕ). y * x) (w .next), ap (λ (x : ℕ). b * x) (w .beside))) in
+            let band : 8 * sampleBytes l ≡ im .band = e8 ∙ sym beside ∙ sym (ap (λ (x : Spacing). x .band) (k .image-is)) in
+            let o : 8 * (at / 8 + y * (im .column / 8) + b * sampleBytes l) ≡ firstAt im b q + 0 * im .row + y * im .column
+            = rw ea (omega (arith, w .first, ap (λ (x : ℕ). y * x) (w .next), ap (λ (x : ℕ). b * x) band)) in
             sym (bitsAt-bytes src _ (sampleBytes l) bytes) ∙ ap₂ (bitsAt src) o e8
             ∙ number b 0 y (omega (arith, i .in-rows)) h
             ∙ ap₂ (λ (x r : ℕ). sampleAt l src x (p .r + r) (p .c + (q .columns .from + y))) (eb z)

@@ -34,7 +34,7 @@ use Rattle.moves.specs.Internal.Spacings.{spacedAt, firstAt, imageSpacin
 use Rattle.moves.proofs.Putting.{puts-less, puts-turns}
 use Rattle.moves.proofs.Stored.{image-run}
 use Rattle.moves.proofs.Whole.{whole-readable}
-use Rattle.moves.proofs.Pieces.{stride-wide, planes-end, planes-fit, Placed, size-is, place-is, band-bytes, whole-bytes, pixels-end}
+use Rattle.moves.proofs.Pieces.{stride-wide, planes-end, planes-fit, Placed, size-is, place-is, whole-bytes, pixels-end}
 
 -- ---- the whole block as a part, with all its bands
 
@@ -207,5 +207,5 @@ module _ {l : BlockLayout} {dat image : List ℕ} (w : Writable l dat image) {im
           let size = size-is k in
           let end = pixels-end k even beside whole (q .bands .from) (n - 1) (omega (arith, i .in-bands)) ea in
           let next = within y (q .columns .count) (im .column / 8) h in
-          let bands = ap (λ (z : ℕ). (n - 1) * z) (band-bytes k even beside whole ∙ size) in
+          let bands = ap (λ (z : ℕ). (n - 1) * z) size in
           omega (arith, last-row n (sampleBytes l) (i .in-bands .some))

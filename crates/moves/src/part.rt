@@ -144,7 +144,6 @@ fn read_pixels(
         src,
         at / 8,
         image.column / 8,
-        image.band / 8,
         planes.column,
         bands,
         area.columns.count,

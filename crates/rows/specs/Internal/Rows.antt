@@ -40,22 +40,23 @@ rowWritten dat from line s w at row step count i ys =
 abbrev pub rowsWritten : List ℕ → (from line s w at row step count rows : ℕ) → List ℕ → List ℕ
 rowsWritten dat from line s w at row step count rows ys = iter rows (rowWritten dat from line s w at row step count) ys
 
--- listed bands of `count` pixels of samples of s bytes in n bytes, and room for them in m bytes
-pub record PixelsIn (n m : ℕ) (list : List ℕ) (at pixel band s to plane count : ℕ) : Type 0 where
+-- listed bands of `count` pixels in n bytes, in which samples of s bytes stand side by side, and room for them in m
+-- bytes
+pub record PixelsIn (n m : ℕ) (list : List ℕ) (at pixel s to plane count : ℕ) : Type 0 where
   pub size-le : s ≤ 8
   pub some : 0 < length list
-  pub inside : (k : ℕ) → k < length list → at + getD list k 0 * band + count * pixel + s ≤ n + pixel
+  pub inside : (k : ℕ) → k < length list → at + getD list k 0 * s + count * pixel + s ≤ n + pixel
   pub room : to + length list * plane + count * s ≤ m + plane
 
 -- the band listed at place k read out of the pixel at index `at` of xs: its s bytes go to index to + k * plane on
-abbrev pub sampleRead : List ℕ → List ℕ → (at band s to plane : ℕ) → ℕ → List ℕ → List ℕ
-sampleRead xs list at band s to plane k ys =
-    over ys (to + k * plane) (values (λ j. beAt xs (at + getD list k 0 * band) s) s 1)
+abbrev pub sampleRead : List ℕ → List ℕ → (at s to plane : ℕ) → ℕ → List ℕ → List ℕ
+sampleRead xs list at s to plane k ys =
+    over ys (to + k * plane) (values (λ j. beAt xs (at + getD list k 0 * s) s) s 1)
 
 -- the listed bands read out of pixel c
-abbrev pub pixelRead : List ℕ → List ℕ → (at pixel band s to plane : ℕ) → ℕ → List ℕ → List ℕ
-pixelRead xs list at pixel band s to plane c ys =
-    iter (length list) (sampleRead xs list (at + c * pixel) band s (to + c * s) plane) ys
+abbrev pub pixelRead : List ℕ → List ℕ → (at pixel s to plane : ℕ) → ℕ → List ℕ → List ℕ
+pixelRead xs list at pixel s to plane c ys =
+    iter (length list) (sampleRead xs list (at + c * pixel) s (to + c * s) plane) ys
 
-abbrev pub pixelsRead : List ℕ → List ℕ → (at pixel band s to plane count : ℕ) → List ℕ → List ℕ
-pixelsRead xs list at pixel band s to plane count ys = iter count (pixelRead xs list at pixel band s to plane) ys
+abbrev pub pixelsRead : List ℕ → List ℕ → (at pixel s to plane count : ℕ) → List ℕ → List ℕ
+pixelsRead xs list at pixel s to plane count ys = iter count (pixelRead xs list at pixel s to plane) ys

@@ -47,7 +47,7 @@ at-requires-2 c κs = to-fits (placed (start c)) (omega arith)
 
 gather-listed-requires : tie.Need-gather-listed-requires
 gather-listed-requires c κs =
-    let to = c .before .before .before in
+    let to = c .before .before in
     let at = to .before in
     let s = start at in
     let w = s .pre .1 .1 .1 in
@@ -67,7 +67,7 @@ same-length c = search needs
 
 returns : tie.Need-returns
 returns c =
-    let to = c .before .before .before .before .before .before in
+    let to = c .before .before .before .before .before in
     let at = to .before in
     let s = start at in
     let w = s .pre .1 .1 .1 in

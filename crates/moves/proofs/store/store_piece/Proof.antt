@@ -11,7 +11,7 @@ use Rattle.moves.specs.declared.order.Way.{Way}
 use Rattle.moves.specs.declared.order.Way.the-variants.{Rows, Pixels, Runs}
 use Rattle.moves.specs.Internal.Orders.{WayFits}
 use Rattle.moves.proofs.Putting.{puts-less}
-use Rattle.moves.proofs.Pieces.{to-fits, at-fits, rows-room, bands-room, rows-move, band-bytes, pixels-end}
+use Rattle.moves.proofs.Pieces.{to-fits, at-fits, rows-room, bands-room, rows-move, pixels-end}
 use Rattle.moves.proofs.StorePieces.{PlacedBlock, placed-block, index-is, rows-put, pixels-put}
 use Rattle.moves.proofs.store.store_piece.Statement.{statement}
 use Rattle.moves.proofs.store.store_piece.Tie as tie
@@ -84,7 +84,6 @@ gather-rows-requires c κs =
           arith,
           pixels-end (placed s) (w .0) (w .2) (w .3) _ (n - 1) (omega (arith, i)) (at .at3 .ensures),
           last-row n (s .args .sides .planes .column) (i .some),
-          ap (λ (x : ℕ). (n - 1) * x) (band-bytes (placed s) (w .0) (w .2) (w .3)),
         ),
       ),
     )

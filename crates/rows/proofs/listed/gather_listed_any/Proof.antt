@@ -14,11 +14,11 @@ use Rattle.rows.proofs.listed.gather_listed_any.Statement.{statement}
 use Rattle.rows.proofs.listed.gather_listed_any.Tie as tie
 
 abbrev Inv-loop : tie.InvT-loop
-Inv-loop src at pixel band size list count out₀ to plane c₀ out c =
-    (c ≤ count) × (length out ≡ length out₀) × (out ≡ iter c (pixelRead src list at pixel band size to plane) out₀)
+Inv-loop src at pixel size list count out₀ to plane c₀ out c =
+    (c ≤ count) × (length out ≡ length out₀) × (out ≡ iter c (pixelRead src list at pixel size to plane) out₀)
 
 abbrev μ-loop : tie.MeasureT-loop
-μ-loop src at pixel band size list count out₀ to plane c₀ out c = count - c
+μ-loop src at pixel size list count out₀ to plane c₀ out c = count - c
 
 -- in a turn: pixel c ends within the pixels
 ends-in : (c : tie.In-loop Inv-loop μ-loop) → let a =
@@ -75,7 +75,7 @@ loop-again c =
     let a = head .before .before .before .before .args in (
       omega arith,
       omega (arith, call .gather-pixel .kept),
-      iter-turn (pixelRead (now (a .src)) (now (a .list)) (a .at) (a .pixel) (a .band) (a .size) (a .to) (a .plane))
+      iter-turn (pixelRead (now (a .src)) (now (a .list)) (a .at) (a .pixel) (a .size) (a .to) (a .plane))
           (now (a .out)) (head .loop .c) (head .loop .inv .2) (call .gather-pixel .ensures),
     )
 

@@ -21,11 +21,11 @@ unfolding values
 one-value v s = refl
 
 abbrev Inv-loop : tie.InvT-loop
-Inv-loop src at band size list out₀ to plane k₀ k-end out k =
-    (k ≤ k-end) × (length out ≡ length out₀) × (out ≡ iter k (sampleRead src list at band size to plane) out₀)
+Inv-loop src at size list out₀ to plane k₀ k-end out k =
+    (k ≤ k-end) × (length out ≡ length out₀) × (out ≡ iter k (sampleRead src list at size to plane) out₀)
 
 abbrev μ-loop : tie.MeasureT-loop
-μ-loop src at band size list out₀ to plane k₀ k-end out k = k-end - k
+μ-loop src at size list out₀ to plane k₀ k-end out k = k-end - k
 
 loop-holds : tie.Need-loop-holds Inv-loop μ-loop
 loop-holds c = (omega arith, refl, iter-none _ _)
@@ -33,7 +33,7 @@ loop-holds c = (omega arith, refl, iter-none _ _)
 -- in a turn: the band's sample ends within `src`, and its place within `out`
 in-src : (c : tie.After-shared-slice-known3 Inv-loop μ-loop)
     → let a = c .before .before .before .before .before .before .args in
-    a .at + getD (now (a .list)) (c .before .before .loop .k) 0 * a .band + a .size ≤ length (now (a .src))
+    a .at + getD (now (a .list)) (c .before .before .loop .k) 0 * a .size + a .size ≤ length (now (a .src))
 in-src c =
     let s = c .before .before .before .before .before .before in
     omega (arith, s .pre .inside (c .before .before .loop .k) (omega (arith, c .before .loop-test .taken)))
@@ -95,7 +95,7 @@ loop-again c =
     let a = head .before .before .before .before .args in (
       omega arith,
       omega (arith, call .put-be .kept),
-      iter-turn (sampleRead (now (a .src)) (now (a .list)) (a .at) (a .band) (a .size) (a .to) (a .plane))
+      iter-turn (sampleRead (now (a .src)) (now (a .list)) (a .at) (a .size) (a .to) (a .plane))
           (now (a .out)) (head .loop .k) (head .loop .inv .2)
           (call .put-be .ensures ∙ ap (over (head .loop .out) (a .to + head .loop .k * a .plane))
           (ap (beBytes (a .size)) (call .before .before .get-be .ensures) ∙ one-value _ (a .size))),
