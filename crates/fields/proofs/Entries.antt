@@ -8,8 +8,8 @@ use native.Mathlib.Omega.{arith}
 use lib.ListN.{length, getD, take, drop, length-take, length-drop}
 use lib.Seq.{ext-getD, getD-take, getD-drop, drop-drop, length-take-le}
 use Rattle.common.specs.Over.{over}
-use Rattle.subheader.specs.declared.fields.Field.{Field}
-use Rattle.subheader.specs.Fields.{field, bytesIn, Entry, put, putAll}
+use Rattle.fields.specs.declared.Field.{Field}
+use Rattle.fields.specs.Fields.{field, bytesIn, Entry, put, putAll}
 use Rattle.common.proofs.Over.{length-over, getD-over-in, getD-over-before}
 
 pub length-bytesIn : (part : List ℕ) (f : Field) → f .at + f .size ≤ length part → length (bytesIn part f) ≡ f .size

@@ -12,14 +12,14 @@ use lib.Seq.{drop-cons}
 use Rattle.common.specs.Tests.{every, some, pick}
 use Rattle.layout.specs.declared.InterleaveMode.{InterleaveMode}
 use Rattle.layout.specs.declared.InterleaveMode.the-variants.{B, P, R, S}
-use Rattle.subheader.specs.declared.PixelValueType.{PixelValueType}
-use Rattle.subheader.specs.declared.PixelValueType.the-variants.{UnsignedInt, SignedInt, Real, Complex, BiLevel}
-use Rattle.subheader.specs.declared.PixelJustification.{PixelJustification}
-use Rattle.subheader.specs.declared.PixelJustification.the-variants.{Right, Left}
-use Rattle.subheader.specs.declared.ImageCompression.{ImageCompression}
-use Rattle.subheader.specs.declared.ImageCompression.the-variants.{NC, NM}
-use Rattle.subheader.specs.Named.{sameBytes, isNamed, valueOf, pvtypes, pvtypeText, pjusts, pjustText}
-use Rattle.subheader.specs.Named.{ics, icText, imodes, imodeText}
+use Rattle.fields.specs.declared.named.PixelValueType.{PixelValueType}
+use Rattle.fields.specs.declared.named.PixelValueType.the-variants.{UnsignedInt, SignedInt, Real, Complex, BiLevel}
+use Rattle.fields.specs.declared.named.PixelJustification.{PixelJustification}
+use Rattle.fields.specs.declared.named.PixelJustification.the-variants.{Right, Left}
+use Rattle.fields.specs.declared.named.ImageCompression.{ImageCompression}
+use Rattle.fields.specs.declared.named.ImageCompression.the-variants.{NC, NM}
+use Rattle.fields.specs.Named.{sameBytes, isNamed, valueOf, pvtypes, pvtypeText, pjusts, pjustText}
+use Rattle.fields.specs.Named.{ics, icText, imodes, imodeText}
 use Rattle.common.proofs.Tests.{true-false, every-at, every-last, some-last}
 
 -- ---- the same bytes

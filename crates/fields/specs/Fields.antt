@@ -7,7 +7,7 @@ use mathlib.Core.List.{List, [], _∷_}
 use lib.ListN.{take, drop}
 use Rattle.common.specs.Over.{over}
 use Rattle.digits.specs.Digits.{areDigits, numberOf, digitBytes}
-use Rattle.subheader.specs.declared.fields.Field.{Field}
+use Rattle.fields.specs.declared.Field.{Field}
 
 abbrev pub field : ℕ → ℕ → Field
 field at size = record { at = at; size = size }

@@ -1,13 +1,16 @@
-// The fields of the three parts: where each stands, and how it is read and written.
+// The fields of three parts of an image subheader: where each stands, and how it is read and written.
 ghost use mathlib.Core.Path.{_≡_};
 ghost use mathlib.Core.Bool.{true};
 ghost use Prim.Native.Nat.{_+_, _≤_};
 ghost use lib.ListN.{length};
-ghost use Rattle.subheader.specs.Fields.{bytesIn, isNumber, numberIn, put, number, text as textEntry};
+ghost use Rattle.fields.specs.Fields.{bytesIn, isNumber, numberIn, put, number, text as textEntry};
 use bits::bytes::copy;
 use digits::are_digits;
 use digits::number_of;
 use digits::put_digits;
+
+pub mod named;
+pub mod sides;
 
 // A field: its first byte in its part, and its bytes.
 pub struct Field {

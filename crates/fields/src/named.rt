@@ -1,15 +1,33 @@
-// Named values as they stand in their fields.
+// Named values, as they stand in their fields.
 ghost use mathlib.Core.Path.{_≡_};
 ghost use Rattle.layout.specs.declared.InterleaveMode.the-variants.{B};
-ghost use Rattle.subheader.specs.declared.PixelValueType.the-variants.{UnsignedInt};
-ghost use Rattle.subheader.specs.declared.PixelJustification.the-variants.{Right};
-ghost use Rattle.subheader.specs.declared.ImageCompression.the-variants.{NC};
-ghost use Rattle.subheader.specs.Named.{sameBytes, isNamed, valueOf};
-ghost use Rattle.subheader.specs.Named.{pvtypes, pvtypeText, pjusts, pjustText, ics, icText, imodes, imodeText};
-use crate::ImageCompression;
-use crate::PixelJustification;
-use crate::PixelValueType;
+ghost use Rattle.fields.specs.declared.named.PixelValueType.the-variants.{UnsignedInt};
+ghost use Rattle.fields.specs.declared.named.PixelJustification.the-variants.{Right};
+ghost use Rattle.fields.specs.declared.named.ImageCompression.the-variants.{NC};
+ghost use Rattle.fields.specs.Named.{sameBytes, isNamed, valueOf};
+ghost use Rattle.fields.specs.Named.{pvtypes, pvtypeText, pjusts, pjustText, ics, icText, imodes, imodeText};
 use layout::InterleaveMode;
+
+// PVTYPE: what a sample's bits are.
+pub enum PixelValueType {
+    UnsignedInt,
+    SignedInt,
+    Real,
+    Complex,
+    BiLevel,
+}
+
+// PJUST: at which end of a sample its ABPP bits stand.
+pub enum PixelJustification {
+    Right,
+    Left,
+}
+
+// IC: without compression, as a whole or masked.
+pub enum ImageCompression {
+    NC,
+    NM,
+}
 
 // Are these the same bytes?
 fn same_bytes(a: &[u8], b: &[u8]) -> bool

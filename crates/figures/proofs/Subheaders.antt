@@ -8,10 +8,11 @@ use Rattle.grid.specs.Widths.{widthTaken}
 use Rattle.grid.specs.Sizes.{bandBytes}
 use Rattle.grid.specs.Check.{blockSide, q1, q3, q4}
 use Rattle.digits.specs.Digits.{areDigits, withDigits, digitBytes}
-use Rattle.subheader.specs.Fields.{bytesIn}
-use Rattle.subheader.specs.Named.{sameBytes, isNamed, valueOf}
-use Rattle.subheader.specs.Subheader.{partsFit, firstNumbers, thirdNumbers, q23, q24, effective, readNumber, readSubheader}
-use Rattle.subheader.specs.Subheader.{q24Write, q9Write, writeNumber, writtenSide, writeSubheader}
+use Rattle.fields.specs.Fields.{bytesIn}
+use Rattle.fields.specs.Named.{sameBytes, isNamed, valueOf}
+use Rattle.fields.specs.Sides.{effective, writtenSide}
+use Rattle.subheader.specs.Subheader.{partsFit, firstNumbers, thirdNumbers, q23, q24, readNumber, readSubheader}
+use Rattle.subheader.specs.Subheader.{q24Write, q9Write, writeNumber, writeSubheader}
 use Rattle.figures.specs.Subheaders.{readFound, readByHand, writeFound, writeByHand}
 
 pub read-by-hand : readFound ≡ readByHand

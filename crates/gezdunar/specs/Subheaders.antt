@@ -9,13 +9,13 @@ use Rattle.common.specs.Questions.{outcome}
 use Rattle.common.specs.Tests.{every, pick}
 use Rattle.layout.specs.declared.InterleaveMode.the-variants.{B}
 use Rattle.grid.specs.declared.Grid.{Grid}
-use Rattle.subheader.specs.declared.PixelValueType.the-variants.{UnsignedInt}
-use Rattle.subheader.specs.declared.PixelJustification.the-variants.{Right}
-use Rattle.subheader.specs.declared.ImageCompression.the-variants.{NC}
+use Rattle.fields.specs.declared.named.PixelValueType.the-variants.{UnsignedInt}
+use Rattle.fields.specs.declared.named.PixelJustification.the-variants.{Right}
+use Rattle.fields.specs.declared.named.ImageCompression.the-variants.{NC}
 use Rattle.subheader.specs.declared.ImageSubheader.{ImageSubheader}
 use Rattle.subheader.specs.declared.ReadSubheader.{ReadSubheader}
-use Rattle.subheader.specs.Named.{isNamed, valueOf, pvtypes, pvtypeText, pjusts, pjustText, ics, icText}
-use Rattle.subheader.specs.Named.{imodes, imodeText}
+use Rattle.fields.specs.Named.{isNamed, valueOf, pvtypes, pvtypeText, pjusts, pjustText, ics, icText}
+use Rattle.fields.specs.Named.{imodes, imodeText}
 use Rattle.subheader.specs.Subheader.{PartsOut, partsOut, writeSubheader}
 use Rattle.gezdunar.specs.declared.GridNumbers.{GridNumbers}
 use Rattle.gezdunar.specs.declared.SubheaderBytes.{SubheaderBytes}

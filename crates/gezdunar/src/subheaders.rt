@@ -7,14 +7,14 @@ use crate::GridNumbers;
 use crate::SubheaderAnswer;
 use crate::SubheaderBytes;
 use crate::names::grid_in;
+use fields::named::ImageCompression;
+use fields::named::PixelJustification;
+use fields::named::PixelValueType;
+use fields::named::mode_from_bytes;
+use fields::named::mode_is_named;
+use fields::named::mode_to_bytes;
 use grid::Grid;
-use subheader::ImageCompression;
 use subheader::ImageSubheader;
-use subheader::PixelJustification;
-use subheader::PixelValueType;
-use subheader::named::mode_from_bytes;
-use subheader::named::mode_is_named;
-use subheader::named::mode_to_bytes;
 
 // A grid's numbers, IMODE as its letter's byte.
 fn numbers_in(grid: Grid) -> GridNumbers

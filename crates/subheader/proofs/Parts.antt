@@ -8,8 +8,8 @@ use native.Mathlib.Omega.{arith}
 use borrow.Author.Tests.{eqb-true, leb-true}
 use lib.Dec.{leb, lit<}
 use lib.ListN.{length}
-use Rattle.subheader.specs.declared.fields.Field.{Field}
-use Rattle.subheader.specs.Fields.{isNumber, NROWS, NCOLS, ABPP, NBPR, NBPC, NPPBH, NPPBV, NBPP}
+use Rattle.fields.specs.declared.Field.{Field}
+use Rattle.fields.specs.Fields.{isNumber, NROWS, NCOLS, ABPP, NBPR, NBPC, NPPBH, NPPBV, NBPP}
 use Rattle.subheader.specs.declared.ImageSubheader.{ImageSubheader}
 use Rattle.subheader.specs.Subheader.{partsFit, firstNumbers, thirdNumbers, q23, q24Write, q9Write, writeNumber}
 use Rattle.subheader.specs.Internal.Parts.{Numbered}

@@ -20,22 +20,23 @@ use Rattle.grid.specs.Check.{Accepted, askGrid, gridNumber}
 use Rattle.grid.proofs.Accepted.{Side, block-sides, answered, facts, grid-yes}
 use Rattle.digits.specs.Digits.{areDigits, numberOf, digitBytes}
 use Rattle.digits.proofs.Digits.{length-digitBytes, digits-are, number-of-digits, number-lt}
-use Rattle.subheader.specs.declared.PixelValueType.the-variants.{UnsignedInt}
-use Rattle.subheader.specs.declared.PixelJustification.the-variants.{Right}
-use Rattle.subheader.specs.declared.ImageCompression.the-variants.{NC}
+use Rattle.fields.specs.declared.named.PixelValueType.the-variants.{UnsignedInt}
+use Rattle.fields.specs.declared.named.PixelJustification.the-variants.{Right}
+use Rattle.fields.specs.declared.named.ImageCompression.the-variants.{NC}
 use Rattle.subheader.specs.declared.ImageSubheader.{ImageSubheader}
 use Rattle.subheader.specs.declared.ReadSubheader.{ReadSubheader}
-use Rattle.subheader.specs.Named.{isNamed, valueOf, pvtypes, pvtypeText, pjusts, pjustText}
-use Rattle.subheader.specs.Named.{ics, icText, imodes, imodeText}
-use Rattle.subheader.specs.declared.fields.Field.{Field}
-use Rattle.subheader.specs.Fields.{field, number, bytesIn, isNumber, numberIn, Entry, putAll, NROWS, NCOLS, PVTYPE, IREP}
-use Rattle.subheader.specs.Fields.{ICAT, ABPP, PJUST, IC, IMODE, NBPR, NBPC, NPPBH, NPPBV, NBPP, text}
-use Rattle.subheader.specs.Subheader.{partsFit, firstNumbers, thirdNumbers, q23, q24, effective, writtenSide}
+use Rattle.fields.specs.Named.{isNamed, valueOf, pvtypes, pvtypeText, pjusts, pjustText}
+use Rattle.fields.specs.Named.{ics, icText, imodes, imodeText}
+use Rattle.fields.specs.declared.Field.{Field}
+use Rattle.fields.specs.Fields.{field, number, bytesIn, isNumber, numberIn, Entry, putAll, NROWS, NCOLS, PVTYPE, IREP}
+use Rattle.fields.specs.Fields.{ICAT, ABPP, PJUST, IC, IMODE, NBPR, NBPC, NPPBH, NPPBV, NBPP, text}
+use Rattle.fields.specs.Sides.{effective, writtenSide}
+use Rattle.subheader.specs.Subheader.{partsFit, firstNumbers, thirdNumbers, q23, q24}
 use Rattle.subheader.specs.Subheader.{gridOfParts, fieldsIn, readNumber, readAs, readSubheader, writeNumber}
 use Rattle.subheader.specs.Subheader.{q24Write, firstEntries, secondEntries, thirdEntries, PartsOut, writeSubheader}
 use Rattle.subheader.specs.RoundTrip.{Eights, readBack, WrittenReadsBack, ReadWrittenAgain}
-use Rattle.subheader.proofs.Entries.{Fits, Laid, laid-reads, length-putAll, length-bytesIn, bytesIn-front}
-use Rattle.subheader.proofs.Values.{pvtype-back, pjust-back, ic-back, imode-back}
+use Rattle.fields.proofs.Entries.{Fits, Laid, laid-reads, length-putAll, length-bytesIn, bytesIn-front}
+use Rattle.fields.proofs.Values.{pvtype-back, pjust-back, ic-back, imode-back}
 use Rattle.subheader.proofs.Parts.{held, Held, lengths, fit, numbered, ready}
 
 -- ---- sides of a block

@@ -6,20 +6,21 @@ use mathlib.Core.List.{List, [], _∷_, _++_}
 use lib.Dec.{leb, eqb}
 use lib.ListN.{length, replicate}
 use Rattle.common.specs.Questions.{ask, outcome}
-use Rattle.common.specs.Tests.{every, pick}
+use Rattle.common.specs.Tests.{every}
 use Rattle.layout.specs.declared.InterleaveMode.the-variants.{B}
 use Rattle.grid.specs.declared.Grid.{Grid}
 use Rattle.grid.specs.Check.{askGrid}
-use Rattle.subheader.specs.declared.PixelValueType.the-variants.{UnsignedInt}
-use Rattle.subheader.specs.declared.PixelJustification.the-variants.{Right}
-use Rattle.subheader.specs.declared.ImageCompression.the-variants.{NC}
+use Rattle.fields.specs.declared.named.PixelValueType.the-variants.{UnsignedInt}
+use Rattle.fields.specs.declared.named.PixelJustification.the-variants.{Right}
+use Rattle.fields.specs.declared.named.ImageCompression.the-variants.{NC}
 use Rattle.subheader.specs.declared.ImageSubheader.{ImageSubheader}
 use Rattle.subheader.specs.declared.ReadSubheader.{ReadSubheader}
-use Rattle.subheader.specs.Named.{isNamed, valueOf, pvtypes, pvtypeText, pjusts, pjustText, ics, icText}
-use Rattle.subheader.specs.Named.{imodes, imodeText}
-use Rattle.subheader.specs.Fields.{bytesIn, isNumber, numberIn, Entry, number, text, putAll}
-use Rattle.subheader.specs.Fields.{NROWS, NCOLS, PVTYPE, IREP, ICAT, ABPP, PJUST, IC}
-use Rattle.subheader.specs.Fields.{IMODE, NBPR, NBPC, NPPBH, NPPBV, NBPP}
+use Rattle.fields.specs.Named.{isNamed, valueOf, pvtypes, pvtypeText, pjusts, pjustText, ics, icText}
+use Rattle.fields.specs.Named.{imodes, imodeText}
+use Rattle.fields.specs.Sides.{effective, writtenSide}
+use Rattle.fields.specs.Fields.{bytesIn, isNumber, numberIn, Entry, number, text, putAll}
+use Rattle.fields.specs.Fields.{NROWS, NCOLS, PVTYPE, IREP, ICAT, ABPP, PJUST, IC}
+use Rattle.fields.specs.Fields.{IMODE, NBPR, NBPC, NPPBH, NPPBV, NBPP}
 
 -- ---- reading
 
@@ -54,10 +55,7 @@ q24 first second third =
     ∷ isNamed imodeText imodes (bytesIn third IMODE)
     ∷ [])
 
--- the side of a block, from its field: zero with one block along the side stands for the picture's
-unfoldable pub effective : ℕ → ℕ → ℕ → ℕ
-effective size blocks side = pick (every (eqb size 0 ∷ eqb blocks 1 ∷ [])) side size
-
+-- NPPBH and NPPBV as they are meant
 abbrev pub effectiveNppbh : List ℕ → List ℕ → ℕ
 effectiveNppbh first third = effective (numberIn third NPPBH) (numberIn third NBPR) (numberIn first NCOLS)
 
@@ -97,7 +95,7 @@ unfoldable pub readNumber : List ℕ → List ℕ → List ℕ → ℕ → ℕ
 readNumber first second third bands =
     ask 23 (q23 first second third) (ask 24 (q24 first second third) (askGrid (gridOfParts first third bands) 0))
 
--- what stands beside a refusal: zeros, and the first of the values of each name
+-- what stands beside a refusal: zeros, and of PVTYPE, PJUST, IC and IMODE the first value
 abbrev pub noGrid : Grid
 noGrid =
     record { nrows = 0; ncols = 0; bands = 0; nbpp = 0; imode = B; nppbh = 0; nppbv = 0; nbpr = 0; nbpc = 0 }
@@ -126,7 +124,7 @@ readSubheader first second third bands =
 
 -- ---- writing
 
--- 24 of the writer: is ABPP at most 99; its other named values are named
+-- 24 of the writer: is ABPP at most 99; PVTYPE, PJUST, IC and IMODE are named values by their types
 unfoldable pub q24Write : ImageSubheader → Bool
 q24Write s = leb (s .abpp) 99
 
@@ -137,10 +135,6 @@ q9Write a b c = every (leb 38 a ∷ leb 2 b ∷ leb 19 c ∷ [])
 -- 24, then 1, 2, 3, 4, then 9
 unfoldable pub writeNumber : ImageSubheader → ℕ → ℕ → ℕ → ℕ
 writeNumber s a b c = ask 24 (q24Write s) (askGrid (s .grid) (ask 9 (q9Write a b c) 0))
-
--- the field of a block's side: zero above 8,192
-unfoldable pub writtenSide : ℕ → ℕ
-writtenSide size = pick (leb size 8_192) size 0
 
 -- what is to stand in the first part
 abbrev pub sideEntries : ImageSubheader → List Entry
@@ -155,8 +149,7 @@ usedBitsEntries s = number ABPP (s .abpp) ∷ text PJUST (pjustText (s .pjust)) 
 abbrev pub firstEntries : ImageSubheader → List Entry
 firstEntries s = sideEntries s ++ kindEntries s ++ usedBitsEntries s
 
--- in the second and in the third
-
+-- and in the second and the third
 abbrev pub secondEntries : ImageSubheader → List Entry
 secondEntries s = text IC (icText (s .ic)) ∷ []
 

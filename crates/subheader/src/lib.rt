@@ -1,32 +1,12 @@
 // Three parts of an image subheader, as MIL-STD-2500C has their fields: NROWS to PJUST, IC, and IMODE to NBPP.
 
-pub mod fields;
-pub mod named;
 mod read;
 mod write;
 
+use fields::named::ImageCompression;
+use fields::named::PixelJustification;
+use fields::named::PixelValueType;
 use grid::Grid;
-
-// PVTYPE: what a sample's bits are.
-pub enum PixelValueType {
-    UnsignedInt,
-    SignedInt,
-    Real,
-    Complex,
-    BiLevel,
-}
-
-// PJUST: at which end of a sample its ABPP bits stand.
-pub enum PixelJustification {
-    Right,
-    Left,
-}
-
-// IC: without compression, as a whole or masked.
-pub enum ImageCompression {
-    NC,
-    NM,
-}
 
 // The fields of the three parts. IREP and ICAT are carried unread.
 pub struct ImageSubheader {

@@ -3,32 +3,20 @@ ghost use mathlib.Core.Path.{_≡_};
 ghost use mathlib.Core.Bool.{true};
 ghost use lib.ListN.{length};
 ghost use Rattle.subheader.specs.Subheader.{partsFit, firstNumbers, thirdNumbers, q23, q24};
-ghost use Rattle.subheader.specs.Subheader.{effective, effectiveNppbh, effectiveNppbv, gridOfParts, fieldsIn};
+ghost use Rattle.subheader.specs.Subheader.{effectiveNppbh, effectiveNppbv, gridOfParts, fieldsIn};
 ghost use Rattle.subheader.specs.Subheader.{noSubheader, readAs, readSubheader};
 ghost use Rattle.subheader.specs.Internal.Parts.{Numbered};
-use crate::ImageCompression;
 use crate::ImageSubheader;
-use crate::PixelJustification;
-use crate::PixelValueType;
 use crate::ReadSubheader;
-use crate::fields::Field;
-use crate::named::mode_from_bytes;
-use crate::named::mode_is_named;
+use fields::Field;
+use fields::named::ImageCompression;
+use fields::named::PixelJustification;
+use fields::named::PixelValueType;
+use fields::named::mode_from_bytes;
+use fields::named::mode_is_named;
+use fields::sides::effective_side;
 use grid::Grid;
 use layout::InterleaveMode;
-
-// The side of a block, from its field; zero with one block along the side stands for the picture's.
-fn effective_side(size: u32, blocks: u32, side: u32) -> u32
-    ensures { λ r. ⌜ r ≡ effective size blocks side ⌝ }
-{
-    if size != 0 {
-        return size;
-    }
-    if blocks != 1 {
-        return size;
-    }
-    side
-}
 
 // Eight bytes by value.
 fn eight_bytes(bytes: &[u8]) -> [u8; 8]

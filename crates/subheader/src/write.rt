@@ -2,25 +2,15 @@
 ghost use mathlib.Core.Path.{_≡_};
 ghost use Prim.Native.Nat.{_≤_};
 ghost use lib.ListN.{length};
-ghost use Rattle.subheader.specs.Fields.{putAll};
-ghost use Rattle.subheader.specs.Subheader.{q9Write, writeNumber, writtenSide};
+ghost use Rattle.fields.specs.Fields.{putAll};
+ghost use Rattle.subheader.specs.Subheader.{q9Write, writeNumber};
 ghost use Rattle.subheader.specs.Subheader.{firstEntries, secondEntries, thirdEntries};
 ghost use Rattle.subheader.specs.Subheader.{sideEntries, kindEntries, usedBitsEntries};
 ghost use Rattle.subheader.specs.Subheader.{partsOut, writeSubheader};
 use crate::ImageSubheader;
-use crate::fields::Field;
-use crate::named::mode_to_bytes;
-use grid::Grid;
-
-// The field of a block's side: zero above 8,192.
-fn written_side(size: u32) -> u32
-    ensures { λ r. ⌜ r ≡ writtenSide size ⌝ }
-{
-    if Grid::MAX_BLOCK_SIDE < size {
-        return 0;
-    }
-    size
-}
+use fields::Field;
+use fields::named::mode_to_bytes;
+use fields::sides::written_side;
 
 // Question 9: do so many bytes hold the parts?
 fn parts_hold(first: usize, second: usize, third: usize) -> bool

@@ -1,12 +1,12 @@
--- `subheader::fields::Field::bytes_in` meets its contract.
+-- `fields::Field::bytes_in` meets its contract.
 -- Assumes nothing.
 use borrow.Author.Needs.{needs}
 use mathlib.Core.Path.{_≡_}
 use Prim.Native.Nat.{_+_, _-_}
 use native.Mathlib.Omega.{arith}
-use Rattle.subheader.specs.Fields.{bytesIn}
-use Rattle.subheader.proofs.fields.Field.bytes_in.Statement.{statement}
-use Rattle.subheader.proofs.fields.Field.bytes_in.Tie as tie
+use Rattle.fields.specs.Fields.{bytesIn}
+use Rattle.fields.proofs.Field.bytes_in.Statement.{statement}
+use Rattle.fields.proofs.Field.bytes_in.Tie as tie
 
 add-end : tie.Need-add-end
 add-end c = search needs

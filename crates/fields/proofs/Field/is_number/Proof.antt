@@ -1,10 +1,10 @@
--- `subheader::fields::Field::is_number` meets its contract.
+-- `fields::Field::is_number` meets its contract.
 -- Assumes nothing.
 use borrow.Author.Needs.{needs}
 use mathlib.Core.Path.{ap, _∙_}
 use Rattle.digits.specs.Digits.{areDigits}
-use Rattle.subheader.proofs.fields.Field.is_number.Statement.{statement}
-use Rattle.subheader.proofs.fields.Field.is_number.Tie as tie
+use Rattle.fields.proofs.Field.is_number.Statement.{statement}
+use Rattle.fields.proofs.Field.is_number.Tie as tie
 
 bytes-in-requires : tie.Need-bytes-in-requires
 bytes-in-requires c κs = search needs

@@ -1,4 +1,4 @@
--- `subheader::fields::Field::number_in` meets its contract.
+-- `fields::Field::number_in` meets its contract.
 -- Assumes nothing.
 use borrow.Author.Needs.{needs}
 use mathlib.Core.Path.{_≡_, ap, _∙_}
@@ -6,9 +6,9 @@ use denote.Ref.{now}
 use native.Mathlib.Omega.{arith}
 use lib.ListN.{length}
 use Rattle.digits.specs.Digits.{areDigits, numberOf}
-use Rattle.subheader.proofs.Entries.{length-bytesIn}
-use Rattle.subheader.proofs.fields.Field.number_in.Statement.{statement}
-use Rattle.subheader.proofs.fields.Field.number_in.Tie as tie
+use Rattle.fields.proofs.Entries.{length-bytesIn}
+use Rattle.fields.proofs.Field.number_in.Statement.{statement}
+use Rattle.fields.proofs.Field.number_in.Tie as tie
 
 bytes-in-requires : tie.Need-bytes-in-requires
 bytes-in-requires c κs = search needs

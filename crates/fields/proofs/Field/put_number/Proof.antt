@@ -1,4 +1,4 @@
--- `subheader::fields::Field::put_number` meets its contract.
+-- `fields::Field::put_number` meets its contract.
 -- Assumes nothing.
 use borrow.Author.Needs.{needs}
 use native.Mathlib.Omega.{arith}
@@ -10,10 +10,10 @@ use lib.ListN.{length, take, drop}
 use Rattle.common.specs.Over.{over}
 use Rattle.digits.specs.Digits.{digitBytes}
 use Rattle.digits.proofs.Digits.{length-digitBytes}
-use Rattle.subheader.specs.Fields.{bytesIn}
-use Rattle.subheader.proofs.Entries.{length-bytesIn, put-part}
-use Rattle.subheader.proofs.fields.Field.put_number.Statement.{statement}
-use Rattle.subheader.proofs.fields.Field.put_number.Tie as tie
+use Rattle.fields.specs.Fields.{bytesIn}
+use Rattle.fields.proofs.Entries.{length-bytesIn, put-part}
+use Rattle.fields.proofs.Field.put_number.Statement.{statement}
+use Rattle.fields.proofs.Field.put_number.Tie as tie
 
 add-end : tie.Need-add-end
 add-end c = search needs

@@ -1,12 +1,12 @@
--- `subheader::fields::Field::put_text` meets its contract.
+-- `fields::Field::put_text` meets its contract.
 -- Assumes nothing.
 use borrow.Author.Needs.{needs}
 use mathlib.Core.Path.{ap, _∙_}
 use denote.Ref.{now}
 use lib.Seq.{take-length}
 use Rattle.common.specs.Over.{over}
-use Rattle.subheader.proofs.fields.Field.put_text.Statement.{statement}
-use Rattle.subheader.proofs.fields.Field.put_text.Tie as tie
+use Rattle.fields.proofs.Field.put_text.Statement.{statement}
+use Rattle.fields.proofs.Field.put_text.Tie as tie
 
 copy-requires : tie.Need-copy-requires
 copy-requires c κs = search needs

@@ -1,12 +1,12 @@
--- `subheader::named::mode_is_named` meets its contract.
+-- `fields::named::mode_is_named` meets its contract.
 -- Assumes nothing.
 use borrow.Author.Needs.{needs}
 use mathlib.Core.Path.{ap, _∙_}
 use denote.Ref.{now}
-use Rattle.subheader.specs.Named.{sameBytes, imodeText}
-use Rattle.subheader.proofs.Values.{named-by}
-use Rattle.subheader.proofs.named.mode_is_named.Statement.{statement}
-use Rattle.subheader.proofs.named.mode_is_named.Tie as tie
+use Rattle.fields.specs.Named.{sameBytes, imodeText}
+use Rattle.fields.proofs.Values.{named-by}
+use Rattle.fields.proofs.named.mode_is_named.Statement.{statement}
+use Rattle.fields.proofs.named.mode_is_named.Tie as tie
 
 mode-from-bytes-requires : tie.Need-mode-from-bytes-requires
 mode-from-bytes-requires c κs = search needs

@@ -1,4 +1,4 @@
--- `subheader::named::same_bytes` meets its contract: where the first j bytes agree, the rest decides.
+-- `fields::named::same_bytes` meets its contract: where the first j bytes agree, the rest decides.
 -- Assumes nothing.
 use mathlib.Core.Path.{_≡_, refl, sym, ap, ap₂, _∙_}
 use mathlib.Core.List.{List}
@@ -7,10 +7,10 @@ use native.Mathlib.Omega.{arith}
 use denote.Ref.{now}
 use lib.ListN.{length, drop}
 use lib.Seq.{drop-length}
-use Rattle.subheader.specs.Named.{sameBytes}
-use Rattle.subheader.proofs.Values.{same-length, same-stop, same-go}
-use Rattle.subheader.proofs.named.same_bytes.Statement.{statement}
-use Rattle.subheader.proofs.named.same_bytes.Tie as tie
+use Rattle.fields.specs.Named.{sameBytes}
+use Rattle.fields.proofs.Values.{same-length, same-stop, same-go}
+use Rattle.fields.proofs.named.same_bytes.Statement.{statement}
+use Rattle.fields.proofs.named.same_bytes.Tie as tie
 
 abbrev Inv-loop : tie.InvT-loop
 Inv-loop a b j₀ j-end j =

@@ -1,10 +1,10 @@
--- `subheader::read::effective_side` meets its contract.
+-- `fields::sides::effective_side` meets its contract.
 -- Assumes nothing.
 use borrow.Author.Tests.{eq-eqb, ne-eqb}
 use Rattle.common.specs.Tests.{every, pick}
-use Rattle.subheader.specs.Subheader.{effective}
-use Rattle.subheader.proofs.read.effective_side.Statement.{statement}
-use Rattle.subheader.proofs.read.effective_side.Tie as tie
+use Rattle.fields.specs.Sides.{effective}
+use Rattle.fields.proofs.sides.effective_side.Statement.{statement}
+use Rattle.fields.proofs.sides.effective_side.Tie as tie
 
 returns : tie.Need-returns
 unfolding effective pick every

@@ -1,11 +1,11 @@
--- `subheader::write::written_side` meets its contract.
+-- `fields::sides::written_side` meets its contract.
 -- Assumes nothing.
 use mathlib.Core.Path.{sym}
 use borrow.Author.Tests.{le-leb, lt-leb}
 use Rattle.common.proofs.Tests.{pick-yes, pick-no}
-use Rattle.subheader.specs.Subheader.{writtenSide}
-use Rattle.subheader.proofs.write.written_side.Statement.{statement}
-use Rattle.subheader.proofs.write.written_side.Tie as tie
+use Rattle.fields.specs.Sides.{writtenSide}
+use Rattle.fields.proofs.sides.written_side.Statement.{statement}
+use Rattle.fields.proofs.sides.written_side.Tie as tie
 
 returns : tie.Need-returns
 unfolding writtenSide

@@ -4,7 +4,7 @@ use borrow.Author.Needs.{needs}
 use mathlib.Core.Path.{ap, _∙_}
 use mathlib.Core.List.{List}
 use Prim.Native.Nat.{ℕ}
-use Rattle.subheader.specs.Fields.{putAll}
+use Rattle.fields.specs.Fields.{putAll}
 use Rattle.subheader.specs.Subheader.{kindEntries, usedBitsEntries}
 use Rattle.subheader.proofs.ImageSubheader.put_first.Statement.{statement}
 use Rattle.subheader.proofs.ImageSubheader.put_first.Tie as tie

@@ -7,7 +7,7 @@ use Prim.Native.Nat.{ℕ}
 use native.Mathlib.Omega.{arith}
 use denote.Ref.{now}
 use lib.ListN.{length}
-use Rattle.subheader.specs.Fields.{put, text, PVTYPE, IREP, ICAT}
+use Rattle.fields.specs.Fields.{put, text, PVTYPE, IREP, ICAT}
 use Rattle.subheader.proofs.ImageSubheader.put_kind.Statement.{statement}
 use Rattle.subheader.proofs.ImageSubheader.put_kind.Tie as tie
 

@@ -5,7 +5,7 @@ use mathlib.Core.Path.{ap, _∙_}
 use mathlib.Core.List.{List}
 use Prim.Native.Nat.{ℕ}
 use denote.Ref.{now}
-use Rattle.subheader.specs.Fields.{put, text, IC}
+use Rattle.fields.specs.Fields.{put, text, IC}
 use Rattle.subheader.proofs.ImageSubheader.put_second.Statement.{statement}
 use Rattle.subheader.proofs.ImageSubheader.put_second.Tie as tie
 

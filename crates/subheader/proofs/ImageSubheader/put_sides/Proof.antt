@@ -4,7 +4,7 @@ use borrow.Author.Needs.{needs}
 use mathlib.Core.Path.{ap, _∙_}
 use mathlib.Core.List.{List}
 use Prim.Native.Nat.{ℕ}
-use Rattle.subheader.specs.Fields.{put, number, NCOLS}
+use Rattle.fields.specs.Fields.{put, number, NCOLS}
 use Rattle.subheader.proofs.ImageSubheader.put_sides.Statement.{statement}
 use Rattle.subheader.proofs.ImageSubheader.put_sides.Tie as tie
 

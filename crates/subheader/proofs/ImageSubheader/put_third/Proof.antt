@@ -5,7 +5,7 @@ use mathlib.Core.Path.{ap, ap₂, _∙_}
 use mathlib.Core.List.{List}
 use Prim.Native.Nat.{ℕ}
 use denote.Ref.{now}
-use Rattle.subheader.specs.Fields.{put, number, text, IMODE, NBPR, NBPC, NPPBH, NPPBV, NBPP}
+use Rattle.fields.specs.Fields.{put, number, text, IMODE, NBPR, NBPC, NPPBH, NPPBV, NBPP}
 use Rattle.subheader.proofs.ImageSubheader.put_third.Statement.{statement}
 use Rattle.subheader.proofs.ImageSubheader.put_third.Tie as tie
 

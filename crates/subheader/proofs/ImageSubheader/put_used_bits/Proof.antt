@@ -4,7 +4,7 @@ use borrow.Author.Needs.{needs}
 use mathlib.Core.Path.{ap₂, _∙_}
 use mathlib.Core.List.{List}
 use Prim.Native.Nat.{ℕ}
-use Rattle.subheader.specs.Fields.{put, text, PJUST}
+use Rattle.fields.specs.Fields.{put, text, PJUST}
 use Rattle.subheader.proofs.ImageSubheader.put_used_bits.Statement.{statement}
 use Rattle.subheader.proofs.ImageSubheader.put_used_bits.Tie as tie
 

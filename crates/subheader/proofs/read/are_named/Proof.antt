@@ -8,8 +8,8 @@ use lib.ListN.{length}
 use Rattle.common.specs.Tests.{every}
 use Rattle.common.proofs.Flags.{no, yes}
 use Rattle.common.proofs.Tests.{every-last}
-use Rattle.subheader.specs.Named.{isNamed, pvtypes, pvtypeText, pjusts, pjustText, ics, icText, imodes, imodeText}
-use Rattle.subheader.specs.Fields.{bytesIn, PVTYPE, PJUST, IC, IMODE}
+use Rattle.fields.specs.Named.{isNamed, pvtypes, pvtypeText, pjusts, pjustText, ics, icText, imodes, imodeText}
+use Rattle.fields.specs.Fields.{bytesIn, PVTYPE, PJUST, IC, IMODE}
 use Rattle.subheader.specs.Subheader.{q24}
 use Rattle.subheader.proofs.Parts.{Lengths, lengths}
 use Rattle.subheader.proofs.read.are_named.Statement.{statement}

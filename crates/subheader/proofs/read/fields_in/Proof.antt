@@ -5,13 +5,13 @@ use mathlib.Core.Path.{ap, _∙_}
 use native.Mathlib.Omega.{arith}
 use denote.Ref.{now}
 use lib.ListN.{length}
-use Rattle.subheader.specs.declared.PixelValueType.the-variants.{UnsignedInt}
-use Rattle.subheader.specs.declared.PixelJustification.the-variants.{Right}
-use Rattle.subheader.specs.declared.ImageCompression.the-variants.{NC}
-use Rattle.subheader.specs.Named.{valueOf, pvtypes, pvtypeText, pjusts, pjustText, ics, icText}
-use Rattle.subheader.specs.Fields.{IREP, ICAT}
+use Rattle.fields.specs.declared.named.PixelValueType.the-variants.{UnsignedInt}
+use Rattle.fields.specs.declared.named.PixelJustification.the-variants.{Right}
+use Rattle.fields.specs.declared.named.ImageCompression.the-variants.{NC}
+use Rattle.fields.specs.Named.{valueOf, pvtypes, pvtypeText, pjusts, pjustText, ics, icText}
+use Rattle.fields.specs.Fields.{IREP, ICAT}
 use Rattle.subheader.specs.Internal.Parts.{Numbered}
-use Rattle.subheader.proofs.Entries.{length-bytesIn}
+use Rattle.fields.proofs.Entries.{length-bytesIn}
 use Rattle.subheader.proofs.Parts.{Lengths, lengths, fit, numbered, ready}
 use Rattle.subheader.proofs.read.fields_in.Statement.{statement}
 use Rattle.subheader.proofs.read.fields_in.Tie as tie

@@ -3,7 +3,7 @@
 use borrow.Author.Needs.{needs}
 use mathlib.Core.Path.{ap, _∙_}
 use Rattle.layout.specs.declared.InterleaveMode.the-variants.{B}
-use Rattle.subheader.specs.Named.{valueOf, imodes, imodeText}
+use Rattle.fields.specs.Named.{valueOf, imodes, imodeText}
 use Rattle.subheader.proofs.Parts.{ready}
 use Rattle.subheader.proofs.read.grid_of_parts.Statement.{statement}
 use Rattle.subheader.proofs.read.grid_of_parts.Tie as tie

@@ -1,12 +1,12 @@
--- `subheader::ImageCompression::is_named` meets its contract.
+-- `fields::named::ImageCompression::is_named` meets its contract.
 -- Assumes nothing.
 use borrow.Author.Needs.{needs}
 use mathlib.Core.Path.{ap, _∙_}
 use denote.Ref.{now}
-use Rattle.subheader.specs.Named.{sameBytes, icText}
-use Rattle.subheader.proofs.Values.{named-by}
-use Rattle.subheader.proofs.ImageCompression.is_named.Statement.{statement}
-use Rattle.subheader.proofs.ImageCompression.is_named.Tie as tie
+use Rattle.fields.specs.Named.{sameBytes, icText}
+use Rattle.fields.proofs.Values.{named-by}
+use Rattle.fields.proofs.named.ImageCompression.is_named.Statement.{statement}
+use Rattle.fields.proofs.named.ImageCompression.is_named.Tie as tie
 
 from-bytes-requires : tie.Need-from-bytes-requires
 from-bytes-requires c κs = search needs

@@ -1,11 +1,11 @@
--- `subheader::PixelJustification::from_bytes` meets its contract.
+-- `fields::named::PixelJustification::from_bytes` meets its contract.
 -- Assumes nothing.
 use borrow.Author.Needs.{needs}
 use mathlib.Core.Path.{sym, _∙_}
 use Rattle.common.specs.Tests.{pick}
-use Rattle.subheader.specs.Named.{valueOf}
-use Rattle.subheader.proofs.PixelJustification.from_bytes.Statement.{statement}
-use Rattle.subheader.proofs.PixelJustification.from_bytes.Tie as tie
+use Rattle.fields.specs.Named.{valueOf}
+use Rattle.fields.proofs.named.PixelJustification.from_bytes.Statement.{statement}
+use Rattle.fields.proofs.named.PixelJustification.from_bytes.Tie as tie
 
 slice-aggregate-same-bytes : tie.Need-slice-aggregate-same-bytes
 slice-aggregate-same-bytes c = search needs

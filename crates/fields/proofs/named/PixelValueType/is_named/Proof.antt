@@ -1,12 +1,12 @@
--- `subheader::PixelValueType::is_named` meets its contract.
+-- `fields::named::PixelValueType::is_named` meets its contract.
 -- Assumes nothing.
 use borrow.Author.Needs.{needs}
 use mathlib.Core.Path.{ap, _∙_}
 use denote.Ref.{now}
-use Rattle.subheader.specs.Named.{sameBytes, pvtypeText}
-use Rattle.subheader.proofs.Values.{named-by}
-use Rattle.subheader.proofs.PixelValueType.is_named.Statement.{statement}
-use Rattle.subheader.proofs.PixelValueType.is_named.Tie as tie
+use Rattle.fields.specs.Named.{sameBytes, pvtypeText}
+use Rattle.fields.proofs.Values.{named-by}
+use Rattle.fields.proofs.named.PixelValueType.is_named.Statement.{statement}
+use Rattle.fields.proofs.named.PixelValueType.is_named.Tie as tie
 
 from-bytes-requires : tie.Need-from-bytes-requires
 from-bytes-requires c κs = search needs
