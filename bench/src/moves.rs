@@ -1,4 +1,5 @@
-//! Samples moved by memcpy, from where they lie to where they go: one call for each run that lies together on both sides.
+//! Samples moved by memcpy, from where they lie to where they go: one call for each run that lies together on both
+//! sides.
 
 use std::hint::black_box;
 use std::ops::Range;
@@ -78,8 +79,8 @@ pub fn crossed(grid: &Grid, window: &Window) -> Vec<Block> {
     rows.flat_map(|row| columns.clone().map(move |column| (row, column))).collect()
 }
 
-/// What a window has of a block, row by row, in a row band by band. `place` gives the byte at which a sample of the block
-/// starts, from its band, row and column.
+/// What a window has of a block, row by row, in a row band by band. `place` gives the byte at which a sample of the
+/// block starts, from its band, row and column.
 pub fn of_block(
     grid: &Grid,
     window: &Window,
