@@ -77,7 +77,8 @@ static inline const char *gezdunar_refusal_text(uint32_t number) {
     case GEZDUNAR_PAD_CODE: return "the pad code does not fit its length";
     case GEZDUNAR_TABLE_TOO_LARGE: return "the mask table would be too large";
     case GEZDUNAR_OFFSET_COUNT: return "an offset list has another length than its records";
-    case GEZDUNAR_SUBHEADER_PART: return "a part of the subheader has another length, or a number that is not all digits";
+    case GEZDUNAR_SUBHEADER_PART:
+        return "a part of the subheader has another length, or a number that is not all digits";
     case GEZDUNAR_NAMED_VALUE: return "PVTYPE, PJUST, IC or IMODE has no named value, or ABPP is above 99";
     case GEZDUNAR_NO_MODE: return "the mode is none of B, P, R and S";
     default: return "refused with a number that has no name here";

@@ -14,8 +14,8 @@ fn known() -> Vec<u32> {
 fn words_of_header(number: u32) -> &'static str {
     let mut names = HEADER.lines().filter_map(|line| line.trim().trim_end_matches(',').split_once(" = "));
     let (name, _) = names.find(|(_, value)| *value == number.to_string()).expect("the number has a name");
-    let (_, text) = HEADER.split_once(&format!("case {name}: return \"")).expect("the name has a text");
-    text.split('"').next().unwrap_or_default()
+    let (_, case) = HEADER.split_once(&format!("case {name}:")).expect("the name has a case");
+    case.split('"').nth(1).expect("the case has a text")
 }
 
 #[test]
