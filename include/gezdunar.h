@@ -17,7 +17,7 @@ extern "C" {
 
 /* The version of this header. It belongs to an archive whose gezdunar_version() answers GEZDUNAR_VERSION. */
 #define GEZDUNAR_VERSION_MAJOR 0
-#define GEZDUNAR_VERSION_MINOR 3
+#define GEZDUNAR_VERSION_MINOR 4
 #define GEZDUNAR_VERSION_PATCH 0
 #define GEZDUNAR_VERSION (GEZDUNAR_VERSION_MAJOR * 1000000 + GEZDUNAR_VERSION_MINOR * 1000 + GEZDUNAR_VERSION_PATCH)
 
@@ -48,6 +48,8 @@ enum gezdunar_refusal {
     GEZDUNAR_OFFSET_COUNT = 22,
     GEZDUNAR_SUBHEADER_PART = 23,
     GEZDUNAR_NAMED_VALUE = 24,
+    /* A sample that is to be written has a bit above NBPP. No call answers 25. */
+    GEZDUNAR_SAMPLE_BITS = 26,
     GEZDUNAR_NO_MODE = 99
 };
 
@@ -80,6 +82,7 @@ static inline const char *gezdunar_refusal_text(uint32_t number) {
     case GEZDUNAR_SUBHEADER_PART:
         return "a part of the subheader has another length, or a number that is not all digits";
     case GEZDUNAR_NAMED_VALUE: return "PVTYPE, PJUST, IC or IMODE has no named value, or ABPP is above 99";
+    case GEZDUNAR_SAMPLE_BITS: return "a sample has a bit above NBPP";
     case GEZDUNAR_NO_MODE: return "the mode is none of B, P, R and S";
     default: return "refused with a number that has no name here";
     }
@@ -206,10 +209,11 @@ struct gezdunar_shape gezdunar_read_window(
 struct gezdunar_answer gezdunar_start(
     uint8_t *image, size_t image_length, uint64_t *marks, size_t marks_length, struct gezdunar_grid grid);
 
-/* Stores the samples of a block, which stand in data band by band, row by row, and marks the block. Bits of a sample
-   above NBPP are dropped. A block may be written again.
+/* Stores the samples of a block, which stand in data band by band, row by row, and marks the block. Each sample is at
+   most 2^NBPP - 1; one with a bit above NBPP is refused with 26, and no sample of the block is stored. A read or a
+   window then gives what was written, bit for bit. A block may be written again.
    Lent: data. Written: in the image the samples' bytes or, where NBPP is no multiple of 8, the bytes of the block's
-   bands; in marks the block's bit. Numbers: 0 to 4, 6, 11 to 14, 99. */
+   bands; in marks the block's bit. Numbers: 0 to 4, 6, 11 to 14, 26, 99. */
 struct gezdunar_answer gezdunar_encode_block(
     uint8_t *image, size_t image_length, uint64_t *marks, size_t marks_length, struct gezdunar_grid grid,
     uint32_t block_row, uint32_t block_col, size_t shape_bands, size_t shape_rows, size_t shape_columns,

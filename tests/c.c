@@ -49,15 +49,16 @@ static bool refused(struct gezdunar_shape s, uint32_t number) {
 static bool pair(const uint8_t *out, uint8_t first, uint8_t second) { return out[0] == first && out[1] == second; }
 
 static void version_and_texts(void) {
-    check("version 0.3.0", GEZDUNAR_VERSION == 3000);
+    check("version 0.4.0", GEZDUNAR_VERSION == 4000);
     check("the header and the archive belong together", gezdunar_version() == GEZDUNAR_VERSION);
     check("accepted in words", strcmp(gezdunar_refusal_text(GEZDUNAR_ACCEPTED), "accepted") == 0);
     check("7 in words", strcmp(gezdunar_refusal_text(7), "the image ends before the block does") == 0);
+    check("26 in words", strcmp(gezdunar_refusal_text(GEZDUNAR_SAMPLE_BITS), "a sample has a bit above NBPP") == 0);
     check("99 in words", strcmp(gezdunar_refusal_text(GEZDUNAR_NO_MODE), "the mode is none of B, P, R and S") == 0);
     const char *unknown = gezdunar_refusal_text(98);
     check("an unknown number in words", strcmp(unknown, "refused with a number that has no name here") == 0);
     for (uint32_t n = 0; n < 100; n++) {
-        bool is_named = n <= 24 || n == 99;
+        bool is_named = n <= 24 || n == 26 || n == 99;
         check("every number has words", is_named == (strcmp(gezdunar_refusal_text(n), unknown) != 0));
     }
 }
@@ -271,8 +272,57 @@ static void writes(void) {
     check("progress", a.number == 0 && a.first == 2);
     check("finish", gezdunar_finalize(image, 4, marks, 1, grid).number == 0);
     check("start", gezdunar_start(small, 2, marks, 1, one).number == 0);
-    check("write", gezdunar_encode_block(small, 2, marks, 1, one, 0, 0, 1, 1, 1, wide, 2).number == 0);
-    check("figure k, sample F123", pair(small, 0x12, 0x30));
+    a = gezdunar_encode_block(small, 2, marks, 1, one, 0, 0, 1, 1, 1, wide, 2);
+    check("figure k, sample F123", a.number == GEZDUNAR_SAMPLE_BITS && pair(small, 0, 0) && *marks == 0);
+}
+
+/* The number of a write of a row of samples into an image and marks that hold 0xAA. A refused one must keep both, an
+   accepted one must be read back as it was. */
+static uint32_t write_row(uint32_t nbpp, uint32_t n, const uint8_t *data, size_t length) {
+    uint8_t before[64];
+    memset(before, 0xAA, 64);
+    const struct gezdunar_grid row = gezdunar_grid(1, n, 1, nbpp, 'B', 1, n);
+    const size_t size = gezdunar_grid_sizes(row).image_bytes;
+    uint8_t *image = copy_of(before, size), *out = copy_of(before, length);
+    uint64_t *marks = LENT(uint64_t, 0xAA);
+    struct gezdunar_answer a = gezdunar_encode_block(image, size, marks, 1, row, 0, 0, 1, 1, n, data, length);
+    struct gezdunar_shape s = gezdunar_decode_block(image, size, row, 0, 0, 0, true, NULL, 0, out, length);
+    bool kept = memcmp(image, before, size) == 0 && *marks == 0xAA;
+    bool stored = has_shape(s, 1, 1, n) && memcmp(out, data, length) == 0 && *marks == 0xAB;
+    check("a row is stored or kept", a.number == 0 ? stored : kept);
+    check("zeros beside the number of a write", a.first == 0 && a.second == 0);
+    return a.number;
+}
+
+static void samples_that_do_not_fit(void) {
+    const uint8_t *first = LENT(uint8_t, 0x10, 0, 0, 0, 0, 0), *last = LENT(uint8_t, 0, 0, 0, 0, 0x10, 0);
+    const uint8_t *highest = LENT(uint8_t, 0, 0, 0x80, 0, 0, 0);
+    const uint8_t *short_by_one = LENT(uint8_t, 0xF1, 0x23, 0x04, 0x56, 0xF7);
+    const uint8_t *largest = LENT(uint8_t, 0x0F, 0xFF, 0, 0, 0x0F, 0xFF);
+    const uint8_t *ones = LENT(uint8_t, 0xFF, 0xFF, 0xFF, 0xFF, 0xFF, 0xFF);
+    check("the first sample has bit 12", write_row(12, 3, first, 6) == GEZDUNAR_SAMPLE_BITS);
+    check("the last sample has bit 12", write_row(12, 3, last, 6) == GEZDUNAR_SAMPLE_BITS);
+    check("a sample has bit 15", write_row(12, 3, highest, 6) == GEZDUNAR_SAMPLE_BITS);
+    check("the largest samples of 12 bits", write_row(12, 3, largest, 6) == GEZDUNAR_ACCEPTED);
+    check("the length before the bits", write_row(12, 3, short_by_one, 5) == GEZDUNAR_DATA_LENGTH);
+    check("all bits of 8", write_row(8, 6, ones, 6) == GEZDUNAR_ACCEPTED);
+    check("all bits of 16", write_row(16, 3, ones, 6) == GEZDUNAR_ACCEPTED);
+    check("all bits of 24", write_row(24, 2, ones, 6) == GEZDUNAR_ACCEPTED);
+    check("all bits of 48", write_row(48, 1, ones, 6) == GEZDUNAR_ACCEPTED);
+}
+
+/* Each bit of each of three samples alone, at every width that is no multiple of 8. */
+static void every_bit_alone(void) {
+    for (uint32_t nbpp = 1; nbpp < 32; nbpp++) {
+        if (nbpp % 8 == 0 || (nbpp > 16 && nbpp < 24)) continue;
+        const uint32_t bits = (nbpp + 7) / 8 * 8;
+        for (uint32_t bit = 0; bit < 3 * bits; bit++) {
+            uint8_t *data = copy_of((const uint8_t[12]){0}, 3 * bits / 8);
+            data[bit / 8] = (uint8_t)(0x80 >> bit % 8);
+            bool fits = bits - 1 - bit % bits < nbpp;
+            check("a bit alone", write_row(nbpp, 3, data, 3 * bits / 8) == (fits ? 0 : GEZDUNAR_SAMPLE_BITS));
+        }
+    }
 }
 
 /* Two blocks in B, the second empty. */
@@ -371,6 +421,8 @@ int main(void) {
     reads();
     figures_k_and_l();
     writes();
+    samples_that_do_not_fit();
+    every_bit_alone();
     masks();
     reorderings();
     null_with_length_0();

@@ -42,7 +42,7 @@ impl Frame {
         Ok(Frame { grid, image, marks })
     }
 
-    /// Stores the samples of a block and marks it, as the function [`encode_block`] does. Numbers: 6, 13, 14.
+    /// Stores the samples of a block and marks it, as the function [`encode_block`] does. Numbers: 6, 13, 14, 26.
     ///
     /// ```
     /// # fn main() -> Result<(), gezdunar::Refusal> {

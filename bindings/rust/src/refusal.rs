@@ -67,6 +67,8 @@ pub enum Refusal {
     SubheaderPart,
     /// 24: PVTYPE, PJUST, IC or IMODE has no named value, or an ABPP to be written is above 99.
     NamedValue,
+    /// 26: a sample that is to be written has a bit above NBPP.
+    SampleBits,
     /// 99: a byte or a text that is no mode.
     NoMode,
     /// A number that has no name here.
@@ -109,6 +111,7 @@ impl Refusal {
             22 => Refusal::OffsetCount,
             23 => Refusal::SubheaderPart,
             24 => Refusal::NamedValue,
+            26 => Refusal::SampleBits,
             99 => Refusal::NoMode,
             other => Refusal::Unknown(other),
         })
@@ -145,6 +148,7 @@ impl Refusal {
             Refusal::OffsetCount => 22,
             Refusal::SubheaderPart => 23,
             Refusal::NamedValue => 24,
+            Refusal::SampleBits => 26,
             Refusal::NoMode => 99,
             Refusal::Unknown(number) => number,
         }
@@ -177,6 +181,7 @@ impl Refusal {
             Refusal::OffsetCount => "an offset list has another length than its records",
             Refusal::SubheaderPart => "a part of the subheader has another length, or a number that is not all digits",
             Refusal::NamedValue => "PVTYPE, PJUST, IC or IMODE has no named value, or ABPP is above 99",
+            Refusal::SampleBits => "a sample has a bit above NBPP",
             Refusal::NoMode => "the mode is none of B, P, R and S",
             Refusal::Unknown(_) => "refused with a number that has no name here",
         }

@@ -20,16 +20,25 @@ pub fn start(image: &mut [u8], marks: &mut [u64], grid: &Grid) -> Result<(), Ref
     accepted(boundary::start(image, marks, grid).number)
 }
 
-/// Stores the samples of a block, which stand in `data` band by band, row by row, and marks the block.
-/// Numbers: 1 to 4, 6, 11 to 14.
+/// Stores the samples of a block, which stand in `data` band by band, row by row, and marks the block. A sample is at
+/// most 2^NBPP - 1: one with a bit above NBPP is refused with [`Refusal::SampleBits`], and no sample of the block is
+/// stored. A read or a window then gives what was written, bit for bit. Numbers: 1 to 4, 6, 11 to 14, 26.
 ///
 /// ```
 /// # fn main() -> Result<(), gezdunar::Refusal> {
-/// use gezdunar::{encode_block, Grid, InterleaveMode};
+/// use gezdunar::{encode_block, Grid, InterleaveMode, Refusal};
 /// let grid = Grid::new(1, 2, 1, 8, InterleaveMode::B, 1, 1);
 /// let (mut image, mut marks) = ([0; 2], [0; 1]);
 /// encode_block(&mut image, &mut marks, &grid, 0, 1, grid.block_shape(0, 1), &[9])?;
 /// assert_eq!((image, marks), ([0, 9], [2]));
+///
+/// // Samples of 12 bits, in two bytes each: the largest is 0FFF.
+/// let grid = Grid { nbpp: 12, ..grid };
+/// let (mut image, mut marks) = ([0; 4], [0; 1]);
+/// let too_large = encode_block(&mut image, &mut marks, &grid, 0, 1, grid.block_shape(0, 1), &[0x10, 0x00]);
+/// assert_eq!((too_large, image, marks), (Err(Refusal::SampleBits), [0; 4], [0]));
+/// encode_block(&mut image, &mut marks, &grid, 0, 1, grid.block_shape(0, 1), &[0x0F, 0xFF])?;
+/// assert_eq!((image, marks), ([0, 0, 0xFF, 0xF0], [2]));
 /// # Ok(())
 /// # }
 /// ```

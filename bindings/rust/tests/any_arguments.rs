@@ -1,5 +1,5 @@
 //! Every call on arguments of any kind: none panics, and a refused one leaves every lent byte as it was. Whole blocks,
-//! progress, finish, parse, lookup and the reader of a subheader answer as expected.
+//! writes, progress, finish, parse, lookup and the reader of a subheader answer as expected.
 
 mod common;
 
@@ -102,6 +102,15 @@ impl Random {
         Grid::new(nrows, ncols, 1 + self.below(3) as u32, [1, 8, 12, 64][self.below(4)], self.mode(), nppbh, nppbv)
     }
 
+    /// Samples of this many bytes in all, all bytes 1; every second time with one byte changed to any.
+    fn samples(&mut self, bytes: usize) -> Box<[u8]> {
+        let mut data = vec![1; bytes];
+        if bytes > 0 && self.below(2) == 0 {
+            data[self.below(bytes)] = self.below(256) as u8;
+        }
+        data.into_boxed_slice()
+    }
+
     fn list(&mut self) -> Box<[u32]> {
         (0..self.below(4)).map(|_| self.number()).collect()
     }
@@ -199,19 +208,29 @@ fn marks_hold(image: &[u8], marks: &[u64], grid: &Grid) -> [bool; 2] {
     [count.is_ok_and(|count| count > 0), finish.is_ok()]
 }
 
+/// Writes into copies of image and marks, which must be as before where it is refused, and compares with what is
+/// expected. Answers the number.
+fn write_holds(lent: (&[u8], &[u64]), grid: &Grid, block: (u32, u32), shape: Shape, data: &[u8]) -> u32 {
+    let write = |image: &mut [u8], marks: &mut [u64]| encode_block(image, marks, grid, block.0, block.1, shape, data);
+    let number = kept(lent.0, |image| kept_marks(lent.1, |marks| write(image, marks)));
+    let expected = expected::encode_block(lent, grid, block, shape, data);
+    assert_eq!(number, expected.map_or_else(Refusal::number, |()| 0), "{data:x?}, {grid:?}");
+    number
+}
+
 #[test]
 fn writes() {
     let mut random = Random(2);
-    let (mut accepted, mut counted, mut finished) = (0, 0, 0);
+    let (mut accepted, mut too_large, mut counted, mut finished) = (0, 0, 0, 0);
     for _ in 0..3_000 {
         let (grid, image, marks) = (random.grid(), random.bytes(), random.marks());
         let (row, column) = (random.number(), random.number());
         let other = Shape { bands: random.size(), rows: random.size(), columns: random.size() };
         let shape = [grid.block_shape(row, column), other][random.below(2)];
-        let data = exact(&vec![1; shape.bytes(grid.nbpp.div_ceil(8) as usize).min(100)]);
+        let data = random.samples(shape.bytes(grid.nbpp.div_ceil(8) as usize).min(100));
         accepted += u32::from(kept(&image, |image| kept_marks(&marks, |marks| start(image, marks, &grid))) == 0);
-        let write = |image: &mut [u8], marks: &mut [u64]| encode_block(image, marks, &grid, row, column, shape, &data);
-        accepted += u32::from(kept(&image, |image| kept_marks(&marks, |marks| write(image, marks))) == 0);
+        let number = write_holds((&image, &marks), &grid, (row, column), shape, &data);
+        (accepted, too_large) = (accepted + u32::from(number == 0), too_large + u32::from(number == 26));
         accepted += u32::from(kept(&marks, |marks| skip_block(&image, marks, &grid, row, column)) == 0);
         let [some, all] = marks_hold(&image, &marks, &grid);
         (counted, finished) = (counted + u32::from(some), finished + u32::from(all));
@@ -219,8 +238,8 @@ fn writes() {
             assert!(Frame::new(grid).is_ok());
         }
     }
-    let enough = accepted > 500 && counted > 500 && finished > 100;
-    assert!(enough, "{accepted} accepted, {counted} counted, {finished} finished");
+    let enough = accepted > 500 && too_large > 20 && counted > 500 && finished > 100;
+    assert!(enough, "{accepted} accepted, {too_large} too large, {counted} counted, {finished} finished");
 }
 
 /// Calls with a copy of the marks, which must be as before where it is refused.

@@ -2,7 +2,7 @@
 
 mod common;
 
-use common::{block_samples, blocks, exact, refused_grids, samples, shape, small, WIDTHS};
+use common::{block_samples, blocks, exact, largest, refused_grids, samples, shape, small, WIDTHS};
 use gezdunar::{decode_block_vec, read_window_vec, Bands, Frame, Grid, InterleaveMode, Refusal, Window};
 
 /// Writes the plain picture, the last block first and each block twice.
@@ -12,7 +12,7 @@ fn written(grid: Grid) -> Frame {
     for (count, (row, column)) in blocks(&grid).into_iter().rev().enumerate() {
         assert_eq!(frame.progress(), Ok(count));
         let (shape, data) = (grid.block_shape(row, column), block_samples(&grid, &bands, row, column));
-        assert_eq!(frame.encode_block(row, column, shape, &exact(&vec![0xFF; data.len()])), Ok(()));
+        assert_eq!(frame.encode_block(row, column, shape, &largest(&grid, shape.bytes(1))), Ok(()));
         assert_eq!(frame.encode_block(row, column, shape, &data), Ok(()));
     }
     assert_eq!(frame.finalize(), Ok(()));
@@ -97,6 +97,23 @@ fn refused_calls_leave_the_frame_as_it_was() {
     assert_eq!(frame.encode_block(1, 1, shape(2, 1, 1), &exact(&[1])).map_err(Refusal::number), Err(14));
     assert_eq!(frame.skip_block(0, 2).map_err(Refusal::number), Err(6));
     assert_eq!(frame, before);
+}
+
+#[test]
+fn a_sample_that_does_not_fit_leaves_the_frame_as_it_was() {
+    for imode in InterleaveMode::ALL {
+        for nbpp in WIDTHS.into_iter().filter(|nbpp| nbpp % 8 != 0) {
+            let mut frame = written(Grid::new(5, 7, 3, nbpp, imode, 3, 2));
+            let before = frame.clone();
+            let shape = frame.grid().block_shape(1, 2);
+            let mut data = largest(frame.grid(), shape.bytes(1));
+            let last = data.len() - nbpp.div_ceil(8) as usize;
+            data[last] += 1 << (nbpp % 8);
+            assert_eq!(frame.encode_block(1, 2, shape, &data), Err(Refusal::SampleBits));
+            assert_eq!(frame, before);
+            read_again(&frame, &[0, 1, 2]);
+        }
+    }
 }
 
 #[test]

@@ -2,8 +2,10 @@
 
 mod common;
 
-use common::{blocks, exact, refused_grids, shape, small};
-use gezdunar::{encode_block, finalize, progress, skip_block, start, Grid, InterleaveMode, Refusal, Shape};
+use common::{block_samples, blocks, exact, largest, refused_grids, shape, small, WIDTHS};
+use gezdunar::{
+    decode_block_vec, encode_block, finalize, progress, skip_block, start, Bands, Grid, InterleaveMode, Refusal, Shape,
+};
 
 /// A started image and its marks, of exact size.
 fn started(grid: &Grid) -> (Box<[u8]>, Box<[u64]>) {
@@ -63,7 +65,8 @@ fn figure_k() {
         let data = [0x01, 0x23, 0x04, 0x56, 0x07, 0x89];
         assert_eq!(*image_of(&grid, (0, 0), &data), [0x12, 0x34, 0x56, 0x78, 0x90]);
         let grid = Grid::new(1, 1, 1, 12, imode, 1, 1);
-        assert_eq!(*image_of(&grid, (0, 0), &[0xF1, 0x23]), [0x12, 0x30]);
+        assert_eq!(stored(&grid, (0, 0), &[0xF1, 0x23]), 26);
+        assert_eq!(*image_of(&grid, (0, 0), &[0x01, 0x23]), [0x12, 0x30]);
     }
 }
 
@@ -107,11 +110,15 @@ fn a_write_keeps_the_rest_of_longer_buffers() {
     assert_eq!((image[48], image[52], &image[64..], &marks[..]), (1, 2, &[0xFF; 3][..], &[12, 77][..]));
 }
 
-/// The number of a write of block data into buffers that must be kept.
+/// The number of a write of data whose bytes are 1, into buffers that must be kept.
 fn refused(grid: &Grid, sizes: (usize, usize), block: (u32, u32), shape: Shape, length: usize) -> u32 {
+    refused_data(grid, sizes, block, shape, &vec![1; length])
+}
+
+/// The number of a write into buffers that must be kept.
+fn refused_data(grid: &Grid, sizes: (usize, usize), block: (u32, u32), shape: Shape, data: &[u8]) -> u32 {
     let (mut image, mut marks) = (exact(&vec![7; sizes.0]), exact(&vec![6; sizes.1]));
-    let data = exact(&vec![1; length]);
-    let answer = encode_block(&mut image, &mut marks, grid, block.0, block.1, shape, &data);
+    let answer = encode_block(&mut image, &mut marks, grid, block.0, block.1, shape, &exact(data));
     assert!(image.iter().all(|&byte| byte == 7) && marks.iter().all(|&word| word == 6));
     answer.map_or_else(Refusal::number, |()| 0)
 }
@@ -145,6 +152,88 @@ fn encode_block_asks_in_order() {
     assert_eq!(refused(&grid, (64, 1), (9, 9), other, 0), 6);
     assert_eq!(refused(&grid, (64, 1), (0, 0), other, 0), 13);
     assert_eq!(refused(&grid, (64, 1), (0, 0), shape(2, 2, 4), 0), 14);
+}
+
+#[test]
+fn encode_block_asks_of_the_samples_last() {
+    let (grid, enough, corner) = (Grid { nbpp: 4, ..small(InterleaveMode::B) }, (32, 1), shape(2, 1, 1));
+    let high = [0xF1; 3];
+    assert_eq!(refused_data(&Grid { nbpr: 1, ..grid }, enough, (1, 1), corner, &high[..2]), 3);
+    assert_eq!(refused_data(&grid, (31, 1), (1, 1), corner, &high[..2]), 11);
+    assert_eq!(refused_data(&grid, (32, 0), (1, 1), corner, &high[..2]), 12);
+    assert_eq!(refused_data(&grid, enough, (1, 2), corner, &high[..2]), 6);
+    assert_eq!(refused_data(&grid, enough, (1, 1), shape(1, 1, 1), &high[..2]), 13);
+    for length in [0, 1, 3] {
+        assert_eq!(refused_data(&grid, enough, (1, 1), corner, &high[..length]), 14);
+    }
+    assert_eq!(refused_data(&grid, enough, (1, 1), corner, &high[..2]), 26);
+}
+
+/// The number of a write into an image and marks with a pattern. A refused one must keep both; what an accepted one
+/// stored must be read as it was.
+fn stored(grid: &Grid, (row, column): (u32, u32), data: &[u8]) -> u32 {
+    let sizes = grid.sizes().expect("an accepted grid");
+    let before = (exact(&vec![0x5A; sizes.image_bytes]), exact(&vec![0x5A00; sizes.mark_words]));
+    let (mut image, mut marks) = before.clone();
+    match encode_block(&mut image, &mut marks, grid, row, column, grid.block_shape(row, column), &exact(data)) {
+        Ok(()) => {
+            let (_, read) = decode_block_vec(&image, grid, row, column, 0, Bands::All).expect("an accepted read");
+            assert_eq!((&read[..], marks[0]), (data, 0x5A00 | 1 << (row * grid.nbpr + column)), "{grid:?}");
+            0
+        }
+        Err(refusal) => {
+            assert_eq!((image, marks), before, "{grid:?}");
+            refusal.number()
+        }
+    }
+}
+
+#[test]
+fn every_bit_above_nbpp_of_every_sample_is_asked() {
+    for imode in InterleaveMode::ALL {
+        for nbpp in WIDTHS.into_iter().filter(|nbpp| nbpp % 8 != 0) {
+            let grid = Grid::new(5, 7, 2, nbpp, imode, 3, 2);
+            let bits = nbpp.next_multiple_of(8);
+            for (row, column) in [(0, 0), (1, 2), (2, 1)] {
+                let data = block_samples(&grid, &[0, 1], row, column);
+                assert_eq!(stored(&grid, (row, column), &data), 0);
+                for bit in (0..8 * data.len() as u32).filter(|bit| bit % bits < bits - nbpp) {
+                    let mut data = data.clone();
+                    data[bit as usize / 8] |= 0x80 >> (bit % 8);
+                    assert_eq!(stored(&grid, (row, column), &data), 26, "bit {bit}, {grid:?}");
+                }
+            }
+        }
+    }
+}
+
+#[test]
+fn the_largest_sample_fits_and_the_next_does_not() {
+    let largest = [(1, 1), (7, 0x7F), (9, 0x1FF), (12, 0xFFF), (15, 0x7FFF), (25, 0x1FF_FFFF), (31, 0x7FFF_FFFF)];
+    for imode in InterleaveMode::ALL {
+        for (nbpp, sample) in largest {
+            let grid = Grid::new(1, 2, 1, nbpp, imode, 2, 1);
+            let bytes = |sample: u32| sample.to_be_bytes()[4 - nbpp.div_ceil(8) as usize..].to_vec();
+            assert_eq!(stored(&grid, (0, 0), &[bytes(sample), bytes(sample)].concat()), 0, "{nbpp}");
+            assert_eq!(stored(&grid, (0, 0), &[bytes(sample + 1), bytes(0)].concat()), 26, "{nbpp}");
+            assert_eq!(stored(&grid, (0, 0), &[bytes(0), bytes(sample + 1)].concat()), 26, "{nbpp}");
+        }
+    }
+}
+
+#[test]
+fn ones_fit_at_byte_multiples_only() {
+    for imode in InterleaveMode::ALL {
+        for nbpp in WIDTHS {
+            let grid = Grid::new(5, 7, 2, nbpp, imode, 3, 2);
+            for (row, column) in blocks(&grid) {
+                let data = largest(&grid, grid.block_shape(row, column).bytes(1));
+                assert_eq!(stored(&grid, (row, column), &data), 0);
+                let ones = vec![0xFF; data.len()];
+                assert_eq!(stored(&grid, (row, column), &ones), if nbpp % 8 == 0 { 0 } else { 26 }, "{nbpp}");
+            }
+        }
+    }
 }
 
 #[test]

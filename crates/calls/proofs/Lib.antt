@@ -1,3 +1,4 @@
 -- The laws of the calls.
 pub mod Numbers
+pub mod Fit
 pub mod WindowLaws

@@ -1,7 +1,9 @@
 -- What a call's number 0, which is acceptance, tells; and questions before others.
 -- Assumes nothing.
 use Prim.Native.Nat.{ℕ, _*_, _≤_}
-use mathlib.Core.Path.{_≡_}
+use mathlib.Core.Path.{_≡_, refl, sym, ap, _∙_}
+use mathlib.Core.Bool.{Bool, true}
+use native.Mathlib.Decide.{ℕ-discrete}
 use borrow.Author.Tests.{leb-true, eqb-true}
 use lib.Dec.{lit<}
 use Rattle.common.specs.Questions.{ask}
@@ -35,10 +37,10 @@ pub start-facts : (g : Grid) (n m : ℕ) → startNumber g n m ≡ 0 → Enough 
 unfolding startNumber
 start-facts g n m e = enough-inv g n m _ e .0
 
-pub write-facts : (g : Grid) (n m row column bands rows columns size : ℕ) → writeNumber g n m row column bands rows columns size ≡ 0
+pub write-facts : (g : Grid) (n m row column bands rows columns size : ℕ) (fit : Bool) → writeNumber g n m row column bands rows columns size fit ≡ 0
     → Enough g n m × Block g row column
 unfolding writeNumber
-write-facts g n m row column bands rows columns size e =
+write-facts g n m row column bands rows columns size fit e =
     let a = enough-inv g n m _ e in
     (a .0, block-inv g row column _ (a .1))
 
@@ -62,10 +64,38 @@ buffers-before g n m =
 pub block-before : (g : Grid) (n m row column : ℕ) → Before (λ rest. askGrid g (askBuffers g n m (ask 6 (q6 g row column) rest)))
 block-before g n m row column = ask-before _ 6 (q6 g row column) (lit< tt) (buffers-before g n m)
 
--- a write that is accepted has data of the right length
-pub write-data : (g : Grid) (n m row column bands rows columns size : ℕ) → writeNumber g n m row column bands rows columns size ≡ 0
+-- and then 13
+pub shape-before : (g : Grid) (n m row column bands rows columns : ℕ)
+    → Before (λ rest. askGrid g (askBuffers g n m (ask 6 (q6 g row column) (ask 13 (q13 g row column bands rows columns) rest))))
+shape-before g n m row column bands rows columns = ask-before _ 13 (q13 g row column bands rows columns) (lit< tt) (block-before g n m row column)
+
+-- a write that is accepted has data of the right length, whose samples fit
+last-two : (g : Grid) (n m row column bands rows columns size : ℕ) (fit : Bool) → writeNumber g n m row column bands rows columns size fit ≡ 0
+    → (q14 g row column size ≡ true) × (fit ≡ true)
+unfolding writeNumber
+last-two g n m row column bands rows columns size fit e =
+    let a = ask-inv 14 (q14 g row column size) _ (lit< tt) (before-inv _ (shape-before g n m row column bands rows columns) _ e) in
+    (a .0, ask-inv 26 fit 0 (lit< tt) (a .1) .0)
+
+pub write-data : (g : Grid) (n m row column bands rows columns size : ℕ) (fit : Bool) → writeNumber g n m row column bands rows columns size fit ≡ 0
     → size ≡ g .bands * actualRows g row * actualColumns g column * sampleBytes g
-unfolding writeNumber q14
-write-data g n m row column bands rows columns size e =
-    let shape = ask-before _ 13 (q13 g row column bands rows columns) (lit< tt) (block-before g n m row column) in
-    eqb-true _ _ (ask-inv 14 (q14 g row column size) 0 (lit< tt) (before-inv _ shape _ e) .0)
+unfolding q14
+write-data g n m row column bands rows columns size fit e = eqb-true _ _ (last-two g n m row column bands rows columns size fit e .0)
+
+pub write-fit : (g : Grid) (n m row column bands rows columns size : ℕ) (fit : Bool) → writeNumber g n m row column bands rows columns size fit ≡ 0 → fit ≡ true
+write-fit g n m row column bands rows columns size fit e = last-two g n m row column bands rows columns size fit e .1
+
+-- where a question before 26 says no it makes no difference whether samples fit
+pub write-same : (g : Grid) (n m row column bands rows columns size : ℕ) (fit fit′ : Bool)
+    → (writeNumber g n m row column bands rows columns size true ≡ 0 → fit ≡ fit′)
+    → writeNumber g n m row column bands rows columns size fit ≡ writeNumber g n m row column bands rows columns size fit′
+unfolding writeNumber
+write-same g n m row column bands rows columns size fit fit′ same = go (ℕ-discrete (writeNumber g n m row column bands rows columns size true) 0)
+  where
+    before-26 : Before (λ rest. askGrid g (askBuffers g n m (ask 6 (q6 g row column) (ask 13 (q13 g row column bands rows columns) (ask 14 (q14 g row column size) rest)))))
+    before-26 = ask-before _ 14 (q14 g row column size) (lit< tt) (shape-before g n m row column bands rows columns)
+
+    go : Dec (writeNumber g n m row column bands rows columns size true ≡ 0)
+        → writeNumber g n m row column bands rows columns size fit ≡ writeNumber g n m row column bands rows columns size fit′
+    go (yes z) = ap (writeNumber g n m row column bands rows columns size) (same z)
+    go (no ne) = sym (before-26 .refuses refl ne (ask 26 fit 0)) ∙ before-26 .refuses refl ne (ask 26 fit′ 0)

@@ -1,12 +1,14 @@
 -- The order in which each call on an image asks its questions. Questions 1 to 4, 6 and 11 stand in grid, 8 and 9 in
 -- layout, 12 in marks.
 -- Assumes nothing.
-use Prim.Native.Nat.{ℕ, _+_, _*_}
+use Prim.Native.Nat.{ℕ, _+_, _*_, _/_, _^_}
 use mathlib.Core.Bool.{Bool, not, _||_}
-use mathlib.Core.List.{[], _∷_}
+use mathlib.Core.List.{List, [], _∷_}
 use lib.Dec.{ltb, leb, eqb}
+use lib.ListN.{length}
 use Rattle.common.specs.Questions.{ask}
 use Rattle.common.specs.Tests.{every, allBelow}
+use Rattle.bits.specs.Bits.{beAt}
 use Rattle.layout.specs.Bands.{Bands, bandCount, q8, q9}
 use Rattle.grid.specs.declared.Grid.{Grid}
 use Rattle.grid.specs.Check.{askGrid, q6, q11}
@@ -119,14 +121,20 @@ q13 g row column bands rows columns =
 unfoldable pub q14 : Grid → ℕ → ℕ → ℕ → Bool
 q14 g row column n = eqb n (g .bands * actualRows g row * actualColumns g column * sampleBytes g)
 
--- write: 11, 12, 6, 13, 14
-unfoldable pub writeNumber : Grid → ℕ → ℕ → ℕ → ℕ → ℕ → ℕ → ℕ → ℕ → ℕ
-writeNumber g n m row column bands rows columns size =
+-- 26: is each sample of the data a number of NBPP bits. At byte multiples any bytes are
+unfoldable pub q26 : Grid → List ℕ → Bool
+q26 g dat =
+    allBelow (length dat / sampleBytes g) (λ k. ltb (beAt dat (k * sampleBytes g) (sampleBytes g)) (2 ^ g .nbpp))
+
+-- write: 11, 12, 6, 13, 14, 26, for data of `size` bytes whose samples fit or do not
+unfoldable pub writeNumber : Grid → ℕ → ℕ → ℕ → ℕ → ℕ → ℕ → ℕ → ℕ → Bool → ℕ
+writeNumber g n m row column bands rows columns size fit =
     askGrid g
     (askBuffers g n m
     (ask 6 (q6 g row column)
     (ask 13 (q13 g row column bands rows columns)
-    (ask 14 (q14 g row column size) 0))))
+    (ask 14 (q14 g row column size)
+    (ask 26 fit 0)))))
 
 -- skip: 11, 12, 6
 unfoldable pub skipNumber : Grid → ℕ → ℕ → ℕ → ℕ → ℕ

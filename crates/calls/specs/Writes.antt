@@ -16,7 +16,7 @@ use Rattle.marks.specs.declared.FirstUnmarked.{FirstUnmarked}
 use Rattle.marks.specs.Marks.{markWords, marked, mark, count, firstNot, unmarkedNumber, unmarkedRow, unmarkedColumn}
 use Rattle.calls.specs.declared.Answer.{Answer}
 use Rattle.calls.specs.Answers.{FrameOut}
-use Rattle.calls.specs.Orders.{startNumber, writeNumber, skipNumber, progressNumber}
+use Rattle.calls.specs.Orders.{q26, startNumber, writeNumber, skipNumber, progressNumber}
 
 -- ---- answers
 
@@ -86,7 +86,7 @@ storeBlock g row column dat image = storeBy (byteMultiple g) g row column dat im
 -- write: the block's samples stored and its mark set
 unfoldable pub write : Grid → List ℕ → List ℕ → ℕ → ℕ → ℕ → ℕ → ℕ → List ℕ → FrameOut
 write g image marks row column bands rows columns dat =
-    outcome (writeNumber g (length image) (length marks) row column bands rows columns (length dat))
+    outcome (writeNumber g (length image) (length marks) row column bands rows columns (length dat) (q26 g dat))
     (frameOut (number 0) (storeBlock g row column dat image) (mark marks (blockIndex g row column)))
     (unchanged image marks)
 

@@ -1,4 +1,5 @@
--- Document 01's figures to hold it against: what the definitions give, beside what the paper says.
+-- Document 01's figures to hold it against, k's last sample as document 02 has it: what the definitions give, beside
+-- what the papers say.
 -- Assumes nothing.
 use Prim.Native.Nat.{ℕ, suc, _+_, _-_, _*_, _/_, _%_, _^_}
 use mathlib.Core.Bool.{true, false}
@@ -21,7 +22,8 @@ use Rattle.calls.specs.Writes.{start, write, progress, finish}
 use Rattle.mask.specs.Mask.{WrittenOut, marksMask, toBytes}
 use Rattle.figures.specs.Instance.{byCalls, byPlainFrame, byHand}
 
--- the figures' letters; `no-letter` has the list of calls that is told by the calls and by the plain frame
+-- the figures' letters; `no-letter` has the largest sample of 12 bits, and the list of calls that is told by the calls
+-- and by the plain frame
 pub data Letter : Type 0 where
   fig-a fig-b fig-c fig-d fig-e fig-f fig-g fig-h fig-i fig-j fig-k fig-l fig-m fig-n no-letter : Letter
 
@@ -91,6 +93,12 @@ writeOver grid row column rows columns dat =
     let w : FrameOut = write grid (replicate (imageBytes grid) 255) (0 ∷ []) row column 1 rows columns dat in
     w .answer .number ∷ w .image
 
+-- a write of the block of a line on an image of ones and a mark word 5: its answer, the image and the marks
+unfoldable pub writeOn : Grid → ℕ → List ℕ → List ℕ
+writeOn grid columns dat =
+    let w : FrameOut = write grid (replicate (imageBytes grid) 255) (5 ∷ []) 0 0 1 1 columns dat in
+    w .answer .number ∷ w .answer .first ∷ w .answer .second ∷ (w .image ++ w .marks)
+
 -- the table of a picture of two blocks in B, written to 18 bytes: the number and the bytes
 unfoldable pub maskOf : List ℕ → List ℕ
 maskOf offsets =
@@ -125,11 +133,20 @@ figures =
           0 ∷ 0 ∷ 1 ∷ 0 ∷ 0x12 ∷ 0x34 ∷ 0x56 ∷ 0x78 ∷ 0x90
           ∷ 0x01 ∷ 0x23 ∷ 0x04 ∷ 0x56 ∷ 0x07 ∷ 0x89 ∷ [];
     }
-    ∷ record { letter = fig-k; found = imageWith (line 12 1) 0 0 (0xF123 ∷ []); paper = 0x12 ∷ 0x30 ∷ [] }
+    ∷ record {
+      letter = fig-k;
+      found = writeOn (line 12 1) 1 (0xF1 ∷ 0x23 ∷ []);
+      paper = 26 ∷ 0 ∷ 0 ∷ 0xFF ∷ 0xFF ∷ 5 ∷ [];
+    }
     ∷ record {
       letter = fig-k;
       found = runOf (line 12 1) 0 0 1 1 (0xF1 ∷ 0x23 ∷ []);
-      paper = 0 ∷ 0 ∷ 1 ∷ 0 ∷ 0x12 ∷ 0x30 ∷ 0x01 ∷ 0x23 ∷ [];
+      paper = 0 ∷ 26 ∷ 0 ∷ 15 ∷ 0 ∷ 0 ∷ 0 ∷ 0 ∷ [];
+    }
+    ∷ record {
+      letter = no-letter;
+      found = runOf (line 12 1) 0 0 1 1 (0x0F ∷ 0xFF ∷ []);
+      paper = 0 ∷ 0 ∷ 1 ∷ 0 ∷ 0xFF ∷ 0xF0 ∷ 0x0F ∷ 0xFF ∷ [];
     }
     ∷ record {
       letter = fig-l;

@@ -28,14 +28,15 @@ begun =
       marks = (2 ^ 64 - 1) ∷ 7 ∷ [];
     }
 
--- block (0,0) written; (1,1) refused by 11 and by 13; written with bits above NBPP; refused by 14; (0,0) skipped;
--- progress, and refused by 12; finish
+-- block (0,0) written; (1,1) refused by 11 and by 13; written; refused by 26 for its last sample, and by 14 though its
+-- sample does not fit either; (0,0) skipped; progress, and refused by 12; finish
 abbrev pub asked : List Call
 asked =
-    write 1000 1000 0 0 2 2 4 (replicate 32 0xF1)
+    write 1000 1000 0 0 2 2 4 (replicate 32 0x0B)
     ∷ write 95 1000 1 1 2 1 1 (0 ∷ 1 ∷ 0 ∷ 2 ∷ [])
     ∷ write 96 1 1 1 2 2 4 (0 ∷ 1 ∷ 0 ∷ 2 ∷ [])
-    ∷ write 96 1 1 1 2 1 1 (0xF1 ∷ 0x23 ∷ 0x04 ∷ 0x56 ∷ [])
+    ∷ write 96 1 1 1 2 1 1 (0x01 ∷ 0x23 ∷ 0x04 ∷ 0x56 ∷ [])
+    ∷ write 96 1 1 1 2 1 1 (0x07 ∷ 0x89 ∷ 0x10 ∷ 0x00 ∷ [])
     ∷ write 96 1 1 1 2 1 1 (0xF1 ∷ 0x23 ∷ [])
     ∷ skip 96 1 0 0
     ∷ progress 1
@@ -65,18 +66,19 @@ byCalls =
 unfoldable pub byPlainFrame : List ℕ
 byPlainFrame = told (plain begun asked .answers) (frameWindow (plain begun asked .frame) 96 part (replicate 17 9))
 
--- worked out by hand from document 01
+-- worked out by hand from documents 01 and 02
 abbrev pub byHand : List ℕ
 byHand =
     0 ∷ 0 ∷ 0
     ∷ 11 ∷ 0 ∷ 0
     ∷ 13 ∷ 0 ∷ 0
     ∷ 0 ∷ 0 ∷ 0
+    ∷ 26 ∷ 0 ∷ 0
     ∷ 14 ∷ 0 ∷ 0
     ∷ 0 ∷ 0 ∷ 0
     ∷ 0 ∷ 2 ∷ 0
     ∷ 12 ∷ 0 ∷ 0
     ∷ 15 ∷ 0 ∷ 1
-    ∷ 0x01 ∷ 0xF1 ∷ 0 ∷ 0 ∷ 0 ∷ 0 ∷ 0x04 ∷ 0x56
-    ∷ 0x01 ∷ 0xF1 ∷ 0 ∷ 0 ∷ 0 ∷ 0 ∷ 0x01 ∷ 0x23
+    ∷ 0x0B ∷ 0x0B ∷ 0 ∷ 0 ∷ 0 ∷ 0 ∷ 0x04 ∷ 0x56
+    ∷ 0x0B ∷ 0x0B ∷ 0 ∷ 0 ∷ 0 ∷ 0 ∷ 0x01 ∷ 0x23
     ∷ 9 ∷ []

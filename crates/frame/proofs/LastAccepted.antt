@@ -1,27 +1,39 @@
 -- The plain frame's numbers are those last accepted, and its reached blocks those named in accepted writes and skips.
 -- Assumes nothing.
 use Prim.Native.Nat.{ℕ, zero, suc, _+_, _*_}
-use mathlib.Core.Path.{_≡_, sym, ap, ap₂, _∙_}
+use mathlib.Core.Path.{_≡_, refl, sym, ap, ap₂, _∙_, subst, subst₂}
 use mathlib.Core.Bool.{Bool, true, false, _||_}
 use mathlib.Core.List.{List, [], _∷_}
 use native.Mathlib.Omega.{arith}
 use native.Mathlib.Decide.{ℕ-discrete}
 use borrow.Author.Tests.{eq-eqb, ne-eqb}
 use lib.Dec.{eqb}
+use lib.ListN.{length}
 use Rattle.common.specs.Questions.{outcome}
 use Rattle.common.specs.Tests.{every, pick}
 use Rattle.grid.specs.declared.Grid.{Grid}
-use Rattle.grid.specs.Layout.{Sample}
+use Rattle.grid.specs.Check.{Accepted}
+use Rattle.grid.specs.Sizes.{sampleBytes, actualRows, actualColumns}
+use Rattle.grid.specs.Layout.{Block, Sample}
+use Rattle.calls.proofs.Numbers.{write-facts, write-data, write-fit}
 use Rattle.frame.specs.Call.{Call, write, skip, progress, finish}
-use Rattle.frame.specs.PlainFrame.{Frame, written, reach, frameWrite, frameSkip, frameStep, frameCallAll}
-use Rattle.frame.specs.OwnWords.{Last, these, accepts, dataAfter, namedAfter, lastData, named, valueIn}
+use Rattle.frame.specs.PlainFrame.{Frame, fitInData, written, reach, frameWrite, frameSkip, frameStep, frameCallAll}
+use Rattle.frame.specs.OwnWords.{Last, nothing, these, accepts, dataAfter, namedAfter, lastData, named, valueIn}
 use Rattle.frame.proofs.ImageNumbers.{written-same, written-other}
 
--- the plain frame's numbers are those of the last data, and its reached blocks those named
+-- what an accepted write tells of its data
+pub record Taken (g : Grid) (row column : ℕ) (dat : List ℕ) : Type 0 where
+  pub enough : Accepted g
+  pub block : Block g row column
+  pub exact : length dat ≡ g .bands * actualRows g row * actualColumns g column * sampleBytes g
+  pub fit : fitInData g row column dat ≡ true
+
+-- the plain frame's numbers are those of the last data, which were accepted, and its reached blocks those named
 pub record Known (f : Frame) (last : ℕ → ℕ → Last) (seen : ℕ → ℕ → Bool) : Type 0 where
   pub numbers : (row column b r c : ℕ) → Sample (f .grid) row column b r c
       → f .numbers b (row * f .grid .nppbv + r) (column * f .grid .nppbh + c)
       ≡ valueIn (f .grid) row column b r c (last row column)
+  pub taken : (row column : ℕ) (dat : List ℕ) → last row column ≡ these dat → Taken (f .grid) row column dat
   pub reached : (row column : ℕ) → f .reached row column ≡ seen row column
 
 -- ---- one call
@@ -57,6 +69,13 @@ pick-kept : {t : Bool} (dat : List ℕ) (last : Last) → t ≡ false → pick t
 unfolding pick
 pick-kept dat last e = rw e
 
+these-inv : (xs ys : List ℕ) → these xs ≡ these ys → xs ≡ ys
+these-inv xs ys e = ap (bytesIn) e
+  where
+    bytesIn : Last → List ℕ
+    bytesIn nothing = []
+    bytesIn (these dat) = dat
+
 -- an accepted write: its own block has the data, any other what it had
 module _ (g : Grid) (y x : ℕ) (dat : List ℕ) (numbers : ℕ → ℕ → ℕ → ℕ) (row column b r c : ℕ)
     (s : Sample g row column b r c) (last : Last)
@@ -83,21 +102,40 @@ module _ (g : Grid) (y x : ℕ) (dat : List ℕ) (numbers : ℕ → ℕ → ℕ 
       go (yes p) (no n) = other (λ _ q. n q)
       go (no n) d = other (λ p _. n p)
 
+taken-last : (g : Grid) (y x : ℕ) (dat : List ℕ) → Taken g y x dat → (row column : ℕ) (last : Last)
+    → ((dat′ : List ℕ) → last ≡ these dat′ → Taken g row column dat′)
+    → (dat′ : List ℕ) → pick (accepts 0 y x row column) (these dat) last ≡ these dat′ → Taken g row column dat′
+taken-last g y x dat t row column last before dat′ e = go (ℕ-discrete row y) (ℕ-discrete column x)
+  where
+    other : (row ≡ y → column ≡ x → ⊥) → Taken g row column dat′
+    other ne = before dat′ (sym (pick-kept dat last (accepts-other y x row column ne)) ∙ e)
+
+    go : Dec (row ≡ y) → Dec (column ≡ x) → Taken g row column dat′
+    go (yes p) (yes q) =
+        subst (λ (xs : List ℕ). Taken g row column xs)
+        (these-inv dat dat′ (sym (pick-last dat last (accepts-same y x row column p q)) ∙ e))
+        (subst₂ (λ (u v : ℕ). Taken g u v dat) (sym p) (sym q) t)
+    go (yes p) (no n) = other (λ _ q. n q)
+    go (no n) d = other (λ p _. n p)
+
 module _ (f : Frame) (last : ℕ → ℕ → Last) (seen : ℕ → ℕ → Bool) (k : Known f last seen) where
-  write-known : (n y x : ℕ) (dat : List ℕ)
+  write-known : (n y x : ℕ) (dat : List ℕ) → (n ≡ 0 → Taken (f .grid) y x dat)
       → Known (frameWrite n f y x dat .frame)
       (λ row column. pick (accepts (frameWrite n f y x dat .answer .number) y x row column) (these dat)
       (last row column))
       (λ row column. accepts (frameWrite n f y x dat .answer .number) y x row column || seen row column)
   unfolding frameWrite outcome
-  write-known zero y x dat =
+  write-known zero y x dat t =
       record {
+        taken = λ row column. taken-last (f .grid) y x dat (t refl) row column (last row column) (k .taken row column);
         numbers = λ row column b r c s. written-last (f .grid) y x dat (f .numbers) row column b r c s (last row column)
             (k .numbers row column b r c s);
         reached = λ row column. reach-is y x row column (f .reached) (seen row column) (k .reached row column);
       }
-  write-known (suc n) y x dat =
+  write-known (suc n) y x dat t =
       record {
+        taken = λ row column dat′ e. k .taken row column dat′
+            (sym (pick-kept dat (last row column) (accepts-refused n y x row column)) ∙ e);
         numbers = λ row column b r c s. k .numbers row column b r c s
             ∙ ap (valueIn (f .grid) row column b r c)
             (sym (pick-kept dat (last row column) (accepts-refused n y x row column)));
@@ -112,11 +150,13 @@ module _ (f : Frame) (last : ℕ → ℕ → Last) (seen : ℕ → ℕ → Bool)
   skip-known zero y x =
       record {
         numbers = k .numbers;
+        taken = k .taken;
         reached = λ row column. reach-is y x row column (f .reached) (seen row column) (k .reached row column);
       }
   skip-known (suc n) y x =
       record {
         numbers = k .numbers;
+        taken = k .taken;
         reached = λ row column. k .reached row column
             ∙ ap (λ (t : Bool). t || seen row column) (sym (accepts-refused n y x row column));
       }
@@ -126,7 +166,15 @@ module _ (f : Frame) (last : ℕ → ℕ → Last) (seen : ℕ → ℕ → Bool)
       (λ row column. dataAfter c (frameStep c f .answer .number) row column (last row column))
       (λ row column. namedAfter c (frameStep c f .answer .number) row column (seen row column))
   unfolding frameStep dataAfter namedAfter
-  call-known (write n m y x bands rows columns dat) = write-known _ y x dat
+  call-known (write n m y x bands rows columns dat) =
+      write-known _ y x dat (λ z.
+      let a = write-facts (f .grid) _ _ y x bands rows columns (length dat) _ z in
+      record {
+        enough = a .0 .accepted;
+        block = a .1;
+        exact = write-data (f .grid) _ _ y x bands rows columns (length dat) _ z;
+        fit = write-fit (f .grid) _ _ y x bands rows columns (length dat) _ z;
+      })
   call-known (skip n m y x) = skip-known _ y x
   call-known (progress m) = k
   call-known (finish n m) = k

@@ -4,6 +4,7 @@ pub mod Lengths
 pub mod StoredBits
 pub mod Bounded
 pub mod PlainBytes
+pub mod FitInData
 pub mod PlainBlocks
 pub mod ImageNumbers
 pub mod MarksReached

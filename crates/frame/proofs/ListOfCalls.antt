@@ -2,7 +2,7 @@
 -- Assumes nothing.
 use Prim.Native.Nat.{ℕ, zero, suc, _+_, _*_, min, _≤_}
 use mathlib.Core.Path.{_≡_, refl, sym, ap, ap₂, _∙_, subst, subst₂}
-use mathlib.Core.Bool.{Bool, false}
+use mathlib.Core.Bool.{Bool, true, false}
 use mathlib.Core.List.{List, [], _∷_, _++_, append-assoc}
 use native.Mathlib.Omega.{arith}
 use lib.ListN.{length, take, drop, replicate, length-take, length-replicate, take-append-drop}
@@ -21,9 +21,10 @@ use Rattle.calls.specs.Orders.{startNumber, writeNumber, skipNumber, progressNu
 use Rattle.calls.specs.Writes as W
 use Rattle.frame.specs.Call.{Call, write, skip, progress, finish}
 use Rattle.frame.specs.Calls.{State, Step, putBack, step, Called, callAll, Start, Accepts, started}
-use Rattle.frame.specs.PlainFrame.{Frame, FrameStep, FrameCalled, frame0, frameWrite, frameSkip}
+use Rattle.frame.specs.PlainFrame.{Frame, FrameStep, FrameCalled, frame0, fitInData, frameWrite, frameSkip}
 use Rattle.frame.specs.PlainFrame.{frameProgress, frameFinish, frameStep, frameCallAll}
-use Rattle.calls.proofs.Numbers.{Enough, start-facts, write-facts, write-data, skip-facts, progress-facts}
+use Rattle.calls.proofs.Numbers.{Enough, start-facts, write-facts, write-data, write-same, skip-facts, progress-facts}
+use Rattle.frame.proofs.FitInData.{fit-is}
 use Rattle.frame.proofs.ImageNumbers.{Holding, image-started, image-written}
 use Rattle.frame.proofs.MarksReached.{Marking, marks-started, lent-marks, marks-reached, progress-is, finish-is}
 
@@ -147,10 +148,14 @@ module _ (g₀ g : Grid) (grid : g ≡ g₀) (image₀ marks₀ image marks : Li
   unfolding step frameStep W.write W.skip W.progress W.finish
   step-at (write n m row column bands rows columns dat) =
       subst₂ (λ (x y : ℕ). Ok (step (write n m row column bands rows columns dat) s)
-      (frameWrite (writeNumber g x y row column bands rows columns (length dat)) f row column dat))
+      (frameWrite (writeNumber g x y row column bands rows columns (length dat) (fitInData g row column dat)) f row column dat))
       (bytes-lent n) (words-lent m)
-      (write-step _ n m row column dat (write-facts g _ _ row column bands rows columns (length dat))
-      (write-data g _ _ row column bands rows columns (length dat)))
+      (subst (λ (k : ℕ). Ok (step (write n m row column bands rows columns dat) s) (frameWrite k f row column dat))
+      (write-same g _ _ row column bands rows columns (length dat) _ _ (λ z.
+      let a = write-facts g _ _ row column bands rows columns (length dat) true z in
+      fit-is g (facts g (a .0 .accepted)) row column (a .1) dat (write-data g _ _ row column bands rows columns (length dat) true z)))
+      (write-step _ n m row column dat (write-facts g _ _ row column bands rows columns (length dat) _)
+      (write-data g _ _ row column bands rows columns (length dat) _)))
   step-at (skip n m row column) =
       subst₂ (λ (x y : ℕ). Ok (step (skip n m row column) s) (frameSkip (skipNumber g x y row column) f row column))
       (bytes-lent n) (words-lent m)

@@ -13,23 +13,34 @@ use Rattle.bits.proofs.Bits.{bitsAt-is}
 use Rattle.grid.specs.declared.Grid.{Grid}
 use Rattle.grid.specs.Layout.{Sample, place}
 use Rattle.grid.proofs.Accepted.{facts}
+use Rattle.common.specs.Over.{over}
+use Rattle.bits.specs.Bits.{Bytes}
 use Rattle.calls.specs.declared.Answer.{Answer}
+use Rattle.calls.specs.Answers.{Filled}
 use Rattle.calls.specs.Orders.{Window, startNumber}
 use Rattle.calls.specs.Reads.{sampleAt, windowOf, window}
 use Rattle.calls.proofs.WindowLaws.{sample-of}
 use Rattle.frame.specs.Call.{Call, progress, finish}
 use Rattle.frame.specs.Calls.{Start, Accepts, after, inForce}
-use Rattle.frame.specs.PlainFrame.{Frame, numberAlone, reachedCount, unreached, frame0}
+use Rattle.frame.specs.PlainFrame.{Frame, wholeInData, numberInData, numberAlone, reachedCount, unreached, frame0}
 use Rattle.frame.specs.PlainFrame.{frameProgress, frameFinish, frameStep}
 use Rattle.frame.specs.Demand3.{plain}
-use Rattle.frame.specs.OwnWords.{nothing, lastData, named, lastAccepted, isNamed, valueIn, lastNumber}
+use Rattle.frame.specs.OwnWords.{Last, nothing, these, blockWindow, lastData, named, lastAccepted, isNamed, valueIn, lastNumber}
 use Rattle.frame.specs.OwnWords.{next, beforeLast, Words, OwnWords}
 use Rattle.frame.proofs.ImageNumbers.{Holding}
 use Rattle.frame.proofs.ListOfCalls.{step-ok}
 use Rattle.frame.proofs.WindowNumbers.{numbers-ext}
 use Rattle.frame.proofs.Demand3Holds.{ran, enough, of-numbers}
-use Rattle.frame.proofs.LastAccepted.{Known, all-known}
+use Rattle.frame.proofs.LastAccepted.{Known, Taken, all-known}
+use Rattle.frame.proofs.FitInData.{whole-kept, block-bytes}
 use Rattle.frame.proofs.Unreached.{rows-only, rows-if}
+
+nothing-taken : (dat : List ℕ) → nothing ≡ these dat → ⊥
+nothing-taken dat e = subst Empty e tt
+  where
+    Empty : Last → Type 0
+    Empty nothing = Unit {0}
+    Empty (these dat) = ⊥
 
 value-none : (g : Grid) (row column b r c : ℕ) → valueIn g row column b r c nothing ≡ 0
 unfolding valueIn
@@ -65,6 +76,7 @@ module _ (s : Start) (cs : List Call) (e : Accepts s) where
       (λ row column. false)
       (record {
         numbers = λ row column b r c t. sym (value-none (s .grid) row column b r c);
+        taken = λ row column dat e. absurd (nothing-taken dat e);
         reached = λ row column. refl;
       }))
 
@@ -104,6 +116,35 @@ module _ (s : Start) (cs : List Call) (e : Accepts s) where
       row column b r c t
       ∙ numbers row column b r c t
 
+  taken : (row column : ℕ) (dat : List ℕ) → lastAccepted s cs row column ≡ these dat → Taken (inForce s cs) row column dat
+  taken row column dat z = subst (λ (g : Grid). Taken g row column dat) (ran s cs e .inv .f-grid) (known .taken row column dat z)
+
+  whole : (row column : ℕ) (dat : List ℕ) → lastAccepted s cs row column ≡ these dat
+      → (b r c : ℕ) → Sample (inForce s cs) row column b r c
+      → numberInData (inForce s cs) row column dat b r c ≡ wholeInData (inForce s cs) row column dat b r c
+  whole row column dat z = whole-kept (inForce s cs) row column dat (taken row column dat z .fit)
+
+  -- the plain frame's numbers in a block are its data's whole numbers
+  block-numbers : (row column : ℕ) (dat : List ℕ) → lastAccepted s cs row column ≡ these dat
+      → (b r c : ℕ) → Sample (inForce s cs) row column b r c
+      → f .numbers b (row * inForce s cs .nppbv + r) (column * inForce s cs .nppbh + c)
+      ≡ wholeInData (inForce s cs) row column dat b r c
+  unfolding valueIn
+  block-numbers row column dat z b r c t =
+      numbers row column b r c t ∙ ap (valueIn (inForce s cs) row column b r c) z ∙ whole row column dat z b r c t
+
+  returned : (row column : ℕ) (dat : List ℕ) → lastAccepted s cs row column ≡ these dat → Bytes dat
+      → (n : ℕ) (out : List ℕ)
+      → let w = window (inForce s cs) (take n (after s cs .state .image)) (blockWindow (inForce s cs) row column) out in
+      w .shape .number ≡ 0 → w .out ≡ over out 0 dat
+  returned row column dat z bytes n out q =
+      let g : Grid = inForce s cs in
+      let t = taken row column dat z in
+      let a = of-numbers s cs e n (blockWindow g row column) out in
+      ap (λ (x : Filled). x .out) a
+      ∙ block-bytes g (facts g (t .enough)) row column (t .block) dat (t .exact) bytes (f .numbers)
+      (block-numbers row column dat z) _ out (sym (ap (λ (x : Filled). x .shape .number) a) ∙ q)
+
   progress-counts : (m : ℕ) → next s cs (progress m) .number ≡ 0
       → next s cs (progress m) .first ≡ reachedCount (inForce s cs) (isNamed s cs)
   unfolding frameStep
@@ -131,6 +172,8 @@ module _ (s : Start) (cs : List Call) (e : Accepts s) where
       record {
         windows = windows;
         samples = samples;
+        whole = whole;
+        returned = returned;
         progress-counts = progress-counts;
         finish-only = λ n m z q row column t. sym (known .reached row column)
             ∙ rows-only (f .reached) (inForce s cs .nbpr) 0 (inForce s cs .nbpc)

@@ -23,7 +23,7 @@ use Rattle.bits.proofs.Values.{values-ext, values-add}
 use Rattle.calls.specs.Orders.{Window}
 use Rattle.calls.specs.Reads.{bytesOf, filled}
 use Rattle.calls.specs.Writes.{dataAt}
-use Rattle.frame.specs.PlainFrame.{Frame, asNumber, numberInData, asBytes, eachFrom, eachOf, windowBand, frameBytes, frameWindowBy}
+use Rattle.frame.specs.PlainFrame.{Frame, asNumber, wholeInData, numberInData, asBytes, eachFrom, eachOf, windowBand, frameBytes, frameWindowBy}
 
 -- ---- a number in bytes
 
@@ -54,14 +54,18 @@ asNumber-is dat k (suc s) h =
     ∙ ap₂ (λ (a b : ℕ). a * 256 + b) (asNumber-is dat k s (omega arith)) (getD-drop k dat s 0)
 
 -- where the data has its exact length, each sample's bytes are in it
-pub data-is : (g : Grid) (row column : ℕ) (dat : List ℕ) → length dat ≡ g .bands * actualRows g row * actualColumns g column * sampleBytes g
-    → (b r c : ℕ) → Sample g row column b r c → numberInData g row column dat b r c ≡ dataAt g row column dat b r c
-unfolding numberInData dataAt
-data-is g row column dat e b r c t =
-    let o : ℕ = (b * actualRows g row + r) * actualColumns g column + c in
-    let h : o < g .bands * actualRows g row * actualColumns g column = digits-lt (digits-lt (t .in-b) (t .in-r)) (t .in-c) in
-    ap (λ (x : ℕ). x % 2 ^ g .nbpp)
-    (asNumber-is dat (o * sampleBytes g) (sampleBytes g) (omega (arith, e, mul-le-mul-right (sampleBytes g) h, suc-mul o (sampleBytes g))))
+module _ (g : Grid) (row column : ℕ) (dat : List ℕ) (e : length dat ≡ g .bands * actualRows g row * actualColumns g column * sampleBytes g) where
+  pub whole-is : (b r c : ℕ) → Sample g row column b r c
+      → wholeInData g row column dat b r c ≡ beAt dat (((b * actualRows g row + r) * actualColumns g column + c) * sampleBytes g) (sampleBytes g)
+  unfolding wholeInData
+  whole-is b r c t =
+      let o : ℕ = (b * actualRows g row + r) * actualColumns g column + c in
+      let h : o < g .bands * actualRows g row * actualColumns g column = digits-lt (digits-lt (t .in-b) (t .in-r)) (t .in-c) in
+      asNumber-is dat (o * sampleBytes g) (sampleBytes g) (omega (arith, e, mul-le-mul-right (sampleBytes g) h, suc-mul o (sampleBytes g)))
+
+  pub data-is : (b r c : ℕ) → Sample g row column b r c → numberInData g row column dat b r c ≡ dataAt g row column dat b r c
+  unfolding numberInData dataAt
+  data-is b r c t = ap (λ (x : ℕ). x % 2 ^ g .nbpp) (whole-is b r c t)
 
 -- ---- one after the other
 

@@ -1,21 +1,25 @@
 -- Demand 3 in the request's own words: what was last accepted for a sample, and which different blocks accepted writes
 -- and skips named.
 -- Assumes nothing.
-use Prim.Native.Nat.{ℕ, _/_, _%_}
+use Prim.Native.Nat.{ℕ, _*_, _/_, _%_}
 use mathlib.Core.Path.{_≡_}
 use mathlib.Core.Bool.{Bool, true, false, _||_}
 use mathlib.Core.List.{List, [], _∷_}
 use lib.Dec.{eqb}
 use lib.ListN.{length, take}
 use Rattle.common.specs.Tests.{every, pick}
+use Rattle.common.specs.Over.{over}
+use Rattle.bits.specs.Bits.{Bytes}
+use Rattle.layout.specs.Bands.{bandsOf}
 use Rattle.grid.specs.declared.Grid.{Grid}
+use Rattle.grid.specs.Sizes.{actualRows, actualColumns}
 use Rattle.grid.specs.Layout.{Block, Sample}
 use Rattle.calls.specs.declared.Answer.{Answer}
-use Rattle.calls.specs.Orders.{Window, startNumber}
+use Rattle.calls.specs.Orders.{Window, rectangle, startNumber}
 use Rattle.calls.specs.Reads.{sampleAt, windowOf, window}
 use Rattle.frame.specs.Call.{Call, write, skip, progress, finish}
 use Rattle.frame.specs.Calls.{Start, Accepts, step, after, inForce}
-use Rattle.frame.specs.PlainFrame.{numberInData, reachedCount}
+use Rattle.frame.specs.PlainFrame.{wholeInData, numberInData, reachedCount}
 
 -- the data last accepted for a block, if there are any
 pub data Last : Type 0 where
@@ -85,6 +89,11 @@ beforeLast s cs n m =
 abbrev pub AllNamed : Start → List Call → Type 0
 AllNamed s cs = (row column : ℕ) → Block (inForce s cs) row column → isNamed s cs row column ≡ true
 
+-- the window of a block: its actual samples, in all bands
+abbrev pub blockWindow : Grid → ℕ → ℕ → Window
+blockWindow g row column =
+    rectangle (row * g .nppbv) (column * g .nppbh) (actualRows g row) (actualColumns g column) (bandsOf true [])
+
 pub record Words (s : Start) (cs : List Call) : Type 0 where
   -- each sample of each accepted window is the low NBPP bits last accepted for it, or zero if no write of its block was
   -- accepted: a window on the image, or on its first n bytes, answers as on a picture of these numbers
@@ -95,6 +104,15 @@ pub record Words (s : Start) (cs : List Call) : Type 0 where
   pub samples : (row column b r c : ℕ) → Sample (inForce s cs) row column b r c
       → sampleAt (inForce s cs) (after s cs .state .image) row column b r c
       ≡ valueIn (inForce s cs) row column b r c (lastAccepted s cs row column)
+  -- what was last accepted is kept whole: the low NBPP bits of each of its samples are the whole number
+  pub whole : (row column : ℕ) (dat : List ℕ) → lastAccepted s cs row column ≡ these dat
+      → (b r c : ℕ) → Sample (inForce s cs) row column b r c
+      → numberInData (inForce s cs) row column dat b r c ≡ wholeInData (inForce s cs) row column dat b r c
+  -- and returned whole: an accepted window of its block, on the image or on its first n bytes, gives the same bytes
+  pub returned : (row column : ℕ) (dat : List ℕ) → lastAccepted s cs row column ≡ these dat → Bytes dat
+      → (n : ℕ) (out : List ℕ)
+      → let w = window (inForce s cs) (take n (after s cs .state .image)) (blockWindow (inForce s cs) row column) out in
+      w .shape .number ≡ 0 → w .out ≡ over out 0 dat
   -- an accepted progress call counts the different blocks in accepted writes and skips before it
   pub progress-counts : (m : ℕ) → next s cs (progress m) .number ≡ 0
       → next s cs (progress m) .first ≡ reachedCount (inForce s cs) (isNamed s cs)

@@ -7,7 +7,7 @@ use mathlib.Core.List.{List, [], _∷_, _++_}
 use lib.Dec.{ltb, leb, eqb}
 use lib.ListN.{length, take, drop}
 use Rattle.common.specs.Questions.{outcome}
-use Rattle.common.specs.Tests.{every, pick}
+use Rattle.common.specs.Tests.{every, pick, allBelow}
 use Rattle.grid.specs.declared.Grid.{Grid}
 use Rattle.grid.specs.Sizes.{sampleBytes, actualRows, actualColumns}
 use Rattle.calls.specs.declared.Answer.{Answer}
@@ -36,12 +36,24 @@ unfoldable pub asNumber : ℕ → List ℕ → ℕ
 asNumber n [] = n
 asNumber n (x ∷ xs) = asNumber (n * 256 + x) xs
 
--- sample (b, r, c) in the data of a write: the low NBPP bits of the s big-endian bytes at
+-- sample (b, r, c) in the data of a write, as a whole number: the s big-endian bytes at
 -- ((b × actual rows + r) × actual columns + c) × s
-unfoldable pub numberInData : Grid → ℕ → ℕ → List ℕ → ℕ → ℕ → ℕ → ℕ
-numberInData g row column dat b r c =
+unfoldable pub wholeInData : Grid → ℕ → ℕ → List ℕ → ℕ → ℕ → ℕ → ℕ
+wholeInData g row column dat b r c =
     let at : ℕ = ((b * actualRows g row + r) * actualColumns g column + c) * sampleBytes g in
-    asNumber 0 (take (sampleBytes g) (drop at dat)) % 2 ^ g .nbpp
+    asNumber 0 (take (sampleBytes g) (drop at dat))
+
+-- what a write keeps of it: the low NBPP bits
+unfoldable pub numberInData : Grid → ℕ → ℕ → List ℕ → ℕ → ℕ → ℕ → ℕ
+numberInData g row column dat b r c = wholeInData g row column dat b r c % 2 ^ g .nbpp
+
+-- question 26: is each sample in the data below 2 to the NBPP, so that no bit is above
+unfoldable pub fitInData : Grid → ℕ → ℕ → List ℕ → Bool
+fitInData g row column dat =
+    allBelow (g .bands)
+    (λ b. allBelow (actualRows g row)
+    (λ r. allBelow (actualColumns g column)
+    (λ c. ltb (wholeInData g row column dat b r c) (2 ^ g .nbpp))))
 
 -- is a band, row and column of the picture an actual sample of the block
 unfoldable pub inBlock : Grid → ℕ → ℕ → ℕ → ℕ → ℕ → Bool
@@ -136,7 +148,8 @@ frameFinish n f = outcome n (unreached (f .reached) (f .grid .nbpr) 0 (f .grid .
 unfoldable pub frameStep : Call → Frame → FrameStep
 frameStep (write n m row column bands rows columns dat) f =
     frameWrite
-    (writeNumber (f .grid) (min n (f .imageLength)) (min m (f .marksLength)) row column bands rows columns (length dat))
+    (writeNumber (f .grid) (min n (f .imageLength)) (min m (f .marksLength)) row column bands rows columns (length dat)
+    (fitInData (f .grid) row column dat))
     f row column dat
 frameStep (skip n m row column) f =
     frameSkip (skipNumber (f .grid) (min n (f .imageLength)) (min m (f .marksLength)) row column) f row column

@@ -34,9 +34,9 @@ use Rattle.gezdunar.specs.declared.names.NamedGrid.the-variants.{Known, 
 
 -- ---- the version and the grid
 
--- the boundary's version, 0.3.0: major, minor and patch
+-- the boundary's version, 0.4.0: major, minor and patch
 abbrev pub version : ℕ
-version = 0 * 1_000_000 + 3 * 1_000 + 0
+version = 0 * 1_000_000 + 4 * 1_000 + 0
 
 -- the numbers of a picture in blocks of NPPBV rows and NPPBH columns: NBPR and NBPC by rounding up, 0 for a side 0
 abbrev pub numbersOf : ℕ → ℕ → ℕ → ℕ → ℕ → ℕ → ℕ → GridNumbers

@@ -22,7 +22,7 @@ pub enum NamedGrid {
 pub extern "C" fn gezdunar_version() -> u32
     ensures { λ r. ⌜ r ≡ version ⌝ }
 {
-    3_000
+    4_000
 }
 
 // The numbers of a picture in blocks; NBPR and NBPC follow from the sides.

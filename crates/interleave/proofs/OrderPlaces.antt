@@ -112,6 +112,7 @@ module _ (m : InterleaveMode) (bands rows columns s : ℕ) where
         accepted = order-fits hb hr hc (a .size-low) (a .size-high) (a .small);
         data-is = a .full ∙ ap (λ (x : ℕ). bands * rows * columns * x) (sym (size-is s));
         image-holds = omega (arith, order-end hb hr hc);
+        fits = λ h. absurd (omega arith);
       }
 
   module _ (dat out : List ℕ) (bd : Bytes dat) (bo : Bytes out) (w : Writable (orderLayout m bands rows columns s) dat out) (room : bands * rows * columns * s ≤ length out) where

@@ -16,7 +16,12 @@ use Rattle.moves.specs.Internal.Stores.{Writable}
 pub stays-writable : {g : BlockLayout} {dat image after : List ℕ} → Writable g dat image → length after ≡ length image
     → Writable g dat after
 stays-writable w e =
-    record { accepted = w .accepted; data-is = w .data-is; image-holds = omega (arith, w .image-holds) }
+    record {
+      accepted = w .accepted;
+      data-is = w .data-is;
+      image-holds = omega (arith, w .image-holds);
+      fits = w .fits;
+    }
 
 -- the bytes of a block's data
 pub record DataFits (g : BlockLayout) : Type 0 where

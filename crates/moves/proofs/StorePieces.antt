@@ -6,6 +6,7 @@ use mathlib.Core.Bool.{true}
 use mathlib.Core.List.{List, []}
 use native.Mathlib.Omega.{arith}
 use native.Mathlib.Nat.{zero-add, add-zero, mod-eq-of-lt, mod-lt}
+use lib.Arith.{digits-lt}
 use lib.ListN.{length}
 use lib.Pow.{pow-pos}
 use Rattle.bits.specs.Bits.{Bytes, beAt}
@@ -13,8 +14,9 @@ use Rattle.common.specs.Turns.{iter}
 use Rattle.bits.proofs.Bits.{within}
 use Rattle.common.specs.Tests.{pick}
 use Rattle.layout.specs.Bands.{bandsOf, bandCount, q8}
-use Rattle.samples.specs.Internal.Samples.{spaced, putSpaced}
+use Rattle.samples.specs.Internal.Samples.{spaced, putSpaced, SamplesFit}
 use Rattle.bits.specs.Values.{sideBySide}
+use Rattle.samples.proofs.Groups.{fit-part}
 use Rattle.samples.proofs.Moves.{spaced-bytes, putSpaced-run}
 use Rattle.rows.specs.Internal.Rows.{wholeRows, rowWritten}
 use Rattle.rows.proofs.WholeBytes.{last-row}
@@ -78,6 +80,16 @@ unfolding bandCount pick
 data-end l dat image w b r c n hb hr hc =
     omega (arith, planes-end l _ _ _ _ _ _ (store-readable l dat image w) b 0 r 0 c n (omega arith) (omega arith) hc)
 
+-- n samples of a row have no further bits
+pub row-fits : {l : BlockLayout} {dat image : List ℕ} → Writable l dat image → (b r c n : ℕ) {from size : ℕ}
+    → b < l .bands → r < l .rows → c + n ≤ l .columns → from ≡ dataIndex l b r c → size ≡ sampleBytes l
+    → l .nbpp < 8 * size → SamplesFit dat from size (l .nbpp) n
+row-fits {l} {dat} w b r c n hb hr hc ef es h =
+    let inside : b * l .rows + r < l .bands * l .rows = digits-lt {q = b} {m = l .bands} hb hr in
+    rw es
+    (fit-part dat 0 (sampleBytes l) (l .nbpp) _ ((b * l .rows + r) * l .columns + c) n (w .fits (omega arith))
+    (omega (arith, within _ _ (l .columns) inside)) (omega arith))
+
 -- ---- a row
 
 -- of a number only the low bits are stored
@@ -126,6 +138,14 @@ module _ {l : BlockLayout} {dat image : List ℕ} (w : Writable l dat image) {im
   place-at b d c hd hc =
       ap₂ (place l b) (sym (zero-add (q .rows .from + d))) (sym (zero-add (q .columns .from + c)))
       ∙ place-is k even b d c hd hc
+
+  -- rows of one band have no further bits
+  pub rows-fit : l .nbpp < 8 * pl .column → (y : ℕ) → y < q .rows .count
+      → SamplesFit dat (from + y * pl .row) (pl .column) (l .nbpp) (q .columns .count)
+  rows-fit h y hy =
+      let ey : pl .row ≡ l .columns * sampleBytes l = ap (λ (x : Spacing). x .row) (k .planes-are) in
+      row-fits w (q .bands .from) (q .rows .from + y) (q .columns .from) (q .columns .count) (omega (arith, i .in-bands))
+      (omega (arith, i .in-rows)) (i .in-columns .ends) (omega (arith, from-is, ap (λ (x : ℕ). y * x) ey)) (size-is k) h
 
   -- rows of one band
   pub rows-put : {after : List ℕ} → q .bands .count ≡ 1

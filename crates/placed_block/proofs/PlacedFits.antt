@@ -1,10 +1,16 @@
--- The program's layout is sound, and its block ends at byte 30.
+-- The program's layout is sound, its block ends at byte 30, and the samples that pass its test have 12 bits.
 -- Assumes nothing.
 use mathlib.Core.Path.{_≡_, refl}
+use mathlib.Core.Bool.{true}
+use mathlib.Core.List.{List}
+use Prim.Native.Nat.{ℕ, _^_, _<_}
 use native.Mathlib.Omega.{arith}
+use borrow.Author.Tests.{ltb-true}
 use Rattle.common.specs.Tests.{some}
+use Rattle.common.proofs.Tests.{below-at}
+use Rattle.bits.specs.Values.{sideBySide}
 use Rattle.layout.specs.Internal.Layout.{Sound, blockEnd}
-use Rattle.placed_block.specs.Placed.{placedLayout}
+use Rattle.placed_block.specs.Placed.{placedLayout, twelveBits}
 
 pub placed-sound : Sound placedLayout
 placed-sound =
@@ -23,3 +29,7 @@ placed-sound =
 pub placed-end : blockEnd placedLayout ≡ 30
 unfolding blockEnd
 placed-end = refl
+
+pub twelve-bits : (dat : List ℕ) → twelveBits dat ≡ true → (k : ℕ) → k < 12 → sideBySide dat 0 2 k < 2 ^ 12
+unfolding twelveBits
+twelve-bits dat e k h = ltb-true _ _ (below-at 12 _ e k h)

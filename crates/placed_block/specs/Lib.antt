@@ -1,2 +1,2 @@
--- The layout of the program's block.
+-- The layout of the program's block, and a test of its samples.
 pub mod Placed

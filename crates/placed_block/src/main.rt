@@ -3,8 +3,9 @@
 // Two bands of 2 rows and 3 columns of 12 bits, in the order of P, in runs of 9 bytes, the first at byte 5 and the
 // second at byte 21.
 ghost use mathlib.Core.Path.{_≡_};
+ghost use mathlib.Core.Bool.{true};
 ghost use lib.ListN.{length};
-ghost use Rattle.placed_block.specs.Placed.{placedLayout};
+ghost use Rattle.placed_block.specs.Placed.{placedLayout, twelveBits};
 use layout::BlockLayout;
 use layout::InterleaveMode;
 use moves::part::read_planes;
@@ -29,8 +30,10 @@ fn placed() -> BlockLayout
     }
 }
 
-// Stores the planes in the file and reads bands 1 and 0 of the block.
-fn store_and_read(file: &mut [u8], planes: &[u8], bands: &[u32], out: &mut [u8]) -> bool {
+// Stores the planes, whose samples have 12 bits, in the file and reads bands 1 and 0 of the block.
+fn store_and_read(file: &mut [u8], planes: &[u8], bands: &[u32], out: &mut [u8]) -> bool
+    requires { ⌜ twelveBits (now planes) ≡ true ⌝ }
+{
     if file.len() < 30 {
         return false;
     }

@@ -18,6 +18,9 @@ pub const PARTS: usize = 12;
 
 pub const DIFFERENCES: usize = 14;
 
+// The writes that are refused with 26.
+pub const UNFIT: usize = 15;
+
 pub fn add(counts: &mut [u64], i: usize, n: u64) {
     if i >= counts.len() {
         return;
@@ -32,6 +35,14 @@ pub fn tally(counts: &mut [u64], accepted: usize, refused: usize, number: u32) {
         return;
     }
     add(counts, refused, 1);
+}
+
+// One more, if a write is refused with 26.
+pub fn tally_unfit(counts: &mut [u64], number: u32) {
+    if number != 26 {
+        return;
+    }
+    add(counts, UNFIT, 1);
 }
 
 // A difference, unless the answer has this number and these values.

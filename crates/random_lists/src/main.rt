@@ -18,6 +18,7 @@ use crate::counts::PARTS;
 use crate::counts::PROGRESSES;
 use crate::counts::SKIPS;
 use crate::counts::STARTS;
+use crate::counts::UNFIT;
 use crate::counts::WINDOWS;
 use crate::counts::WRITES;
 use crate::lists::run_list;
@@ -36,6 +37,7 @@ fn print_counts(counts: &[u64]) {
     print_count(b"starts refused ", counts, STARTS + 1);
     print_count(b"writes accepted ", counts, WRITES);
     print_count(b"writes refused ", counts, WRITES + 1);
+    print_count(b"of these with 26 ", counts, UNFIT);
     print_count(b"skips accepted ", counts, SKIPS);
     print_count(b"skips refused ", counts, SKIPS + 1);
     print_count(b"progress calls accepted ", counts, PROGRESSES);
@@ -58,7 +60,7 @@ fn run_lists(seed: &mut u64, counts: &mut [u64]) {
 
 fn main() {
     let mut seed: u64 = 88_172_645_463_325_252;
-    let mut counts = [0u64; 15];
+    let mut counts = [0u64; 16];
     run_lists(&mut seed, &mut counts);
     print_counts(&counts);
 }

@@ -36,7 +36,7 @@ pub fn sample(data: &[u8], at: u64, size: u64) -> u64 {
 }
 
 // The low bits of a number.
-fn low_bits(v: u64, bits: u32) -> u64 {
+pub fn low_bits(v: u64, bits: u32) -> u64 {
     if bits < 1 {
         return v;
     }
@@ -44,6 +44,25 @@ fn low_bits(v: u64, bits: u32) -> u64 {
         return v;
     }
     (v << (64 - bits)) >> (64 - bits)
+}
+
+// One more, if sample k has a bit above the picture's width.
+fn with_sample(data: &[u8], p: Picture, k: u64, count: u64) -> u64 {
+    let v = sample(data, product(k, p.size), p.size);
+    if v == low_bits(v, small(p.nbpp)) {
+        return count;
+    }
+    sum(count, 1)
+}
+
+// How many samples have a bit above the picture's width.
+pub fn unfit(data: &[u8], p: Picture) -> u64 {
+    let samples = quotient(data.len() as u64, p.size);
+    let mut count: u64 = 0;
+    for k in 0..samples {
+        count = with_sample(data, p, k, count);
+    }
+    count
 }
 
 // Sets the number of sample k of a block, which `data` has band by band, row by row.

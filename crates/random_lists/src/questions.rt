@@ -1,10 +1,11 @@
-// The numbers that the plain frame gives to the calls, from document 01, "Questions before work".
+// The numbers that the plain frame gives to the calls, from document 01, "Questions before work", and document 02.
 use crate::numbers::ceiling;
 use crate::numbers::product;
 use crate::picture::Picture;
 use crate::picture::actual_columns;
 use crate::picture::actual_rows;
 use crate::plain::first;
+use crate::plain::unfit;
 
 // What a write is told: the block, and the shape of its data.
 pub struct Write {
@@ -46,8 +47,8 @@ pub fn skip_number(p: Picture, image: usize, words: usize, row: u64, column: u64
     0
 }
 
-// The same, then questions 13 and 14.
-pub fn write_number(p: Picture, image: usize, words: usize, w: Write, length: usize) -> u32 {
+// The same, then questions 13, 14 and 26.
+pub fn write_number(p: Picture, image: usize, words: usize, w: Write, data: &[u8]) -> u32 {
     let number = skip_number(p, image, words, w.row, w.column);
     if number != 0 {
         return number;
@@ -61,8 +62,11 @@ pub fn write_number(p: Picture, image: usize, words: usize, w: Write, length: us
     if w.columns != actual_columns(p, w.column) {
         return 13;
     }
-    if length as u64 != product(product(product(w.bands, w.rows), w.columns), p.size) {
+    if data.len() as u64 != product(product(product(w.bands, w.rows), w.columns), p.size) {
         return 14;
+    }
+    if unfit(data, p) > 0 {
+        return 26;
     }
     0
 }

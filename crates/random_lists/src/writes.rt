@@ -6,7 +6,11 @@ use crate::counts::STARTS;
 use crate::counts::WRITES;
 use crate::counts::compare;
 use crate::counts::tally;
+use crate::counts::tally_unfit;
+use crate::numbers::less;
 use crate::numbers::product;
+use crate::numbers::quotient;
+use crate::numbers::rest;
 use crate::numbers::small;
 use crate::numbers::sum;
 use crate::picture::Picture;
@@ -15,6 +19,7 @@ use crate::picture::actual_rows;
 use crate::picture::grid_of;
 use crate::plain::count;
 use crate::plain::first;
+use crate::plain::low_bits;
 use crate::plain::reach;
 use crate::plain::set_block;
 use crate::questions::Write;
@@ -76,7 +81,7 @@ fn write(
     reached: &mut [u8],
     counts: &mut [u64],
 ) {
-    let number = write_number(p, image.len(), marks.len(), w, data.len());
+    let number = write_number(p, image.len(), marks.len(), w, data);
     let a = writing::encode_block(
         image,
         marks,
@@ -90,6 +95,7 @@ fn write(
     );
     compare(counts, a, number, 0, 0);
     tally(counts, WRITES, WRITES + 1, number);
+    tally_unfit(counts, number);
     if number != 0 {
         return;
     }
@@ -97,7 +103,46 @@ fn write(
     reach(reached, w.row, w.column);
 }
 
-// A write of random samples, now and then of another shape or length.
+// Byte i of samples, without the bits above the picture's width.
+fn fitting(p: Picture, i: u64, b: u8) -> u8 {
+    if rest(i, p.size) != 0 {
+        return b;
+    }
+    (low_bits(b as u64, small(rest(p.nbpp, 8))) % 256) as u8
+}
+
+// Clears the bits above the picture's width.
+fn fit(p: Picture, data: &mut [u8]) {
+    for i in 0..data.len() {
+        data[i] = fitting(p, i as u64, data[i]);
+    }
+}
+
+fn with_bit(b: u8, bit: u64) -> u8 {
+    if bit > 7 {
+        return b;
+    }
+    b | (1 << bit)
+}
+
+// Sets, now and then, a bit above the picture's width in one of the samples of the first `length` bytes.
+fn seldom_unfit(seed: &mut u64, p: Picture, data: &mut [u8], length: usize) {
+    let used = rest(p.nbpp, 8);
+    if used == 0 {
+        return;
+    }
+    if below(seed, 12) != 0 {
+        return;
+    }
+    let k = below(seed, quotient(length as u64, p.size));
+    let i = product(k, p.size) as usize;
+    let bit = sum(used, below(seed, less(8, used)));
+    if i < data.len() {
+        data[i] = with_bit(data[i], bit);
+    }
+}
+
+// A write of random samples, now and then of another shape or length, or with a sample that does not fit.
 pub fn random_write(
     seed: &mut u64,
     p: Picture,
@@ -115,6 +160,8 @@ pub fn random_write(
     if length > 1280 {
         return;
     }
+    fit(p, &mut data);
+    seldom_unfit(seed, p, &mut data, length);
     write(
         p,
         w,

@@ -1,10 +1,10 @@
 -- Laws of rows that follow each other on both sides: they are one row of all their samples.
 -- Assumes nothing.
-use Prim.Native.Nat.{ℕ, _+_, _-_, _*_, _≤_, _<_}
+use Prim.Native.Nat.{ℕ, zero, suc, _+_, _-_, _*_, _/_, _%_, _≤_, _<_}
 use mathlib.Core.Path.{_≡_, refl, sym, ap, _∙_}
 use mathlib.Core.List.{List}
 use native.Mathlib.Omega.{arith}
-use native.Mathlib.Nat.{mul-le-mul-left, mul-le-mul-right, zero-mul}
+use native.Mathlib.Nat.{mul-le-mul-left, mul-le-mul-right, zero-mul, div-add-mod', div-lt-iff-lt-mul, mod-lt}
 use lib.ListN.{length}
 use Rattle.common.specs.Turns.{iter}
 use Rattle.common.proofs.Turns.{iter-steps}
@@ -12,8 +12,8 @@ use Rattle.bits.specs.Bits.{bitsAt}
 use Rattle.bits.specs.Values.{sideBySide}
 use Rattle.bits.proofs.Bits.{within, next-sample}
 use Rattle.bits.proofs.Values.{values-none, values-run}
-use Rattle.samples.specs.Internal.Samples.{spaced, samplesRead, samplesWritten}
-use Rattle.samples.proofs.Groups.{put-rest}
+use Rattle.samples.specs.Internal.Samples.{spaced, samplesRead, samplesWritten, SamplesFit}
+use Rattle.samples.proofs.Groups.{sideBySide-from, put-rest}
 use Rattle.samples.proofs.Moves.{putSpaced-none}
 use Rattle.rows.specs.Internal.Rows.{Movable, rowRead, rowsRead, rowWritten, rowsWritten}
 use Rattle.rows.proofs.WholeBytes.{last-row}
@@ -25,6 +25,18 @@ by-turns F f count m turn =
     sym
     (iter-steps (λ i z. z ≡ F (i * count)) m f (F 0)
     (λ i h z e. ap (f i) e ∙ turn i h ∙ ap F (sym (next-sample i count))) (ap F (sym (zero-mul count))))
+
+-- rows of samples without further bits, which follow each other in the lent data
+pub fit-as-one : (dat : List ℕ) (o s w count m : ℕ) {line : ℕ} → line ≡ count * s
+    → ((i : ℕ) → i < m → SamplesFit dat (o + i * line) s w count) → SamplesFit dat o s w (m * count)
+fit-as-one dat o s w zero m {line} e f k h = absurd (omega arith)
+fit-as-one dat o s w (suc n) m {line} e f k h =
+    let count : ℕ = suc n in
+    let i : ℕ = k / count in
+    let row : i < m = div-lt-iff-lt-mul {k = count} {x = k} {y = m} (omega arith) .1 h in
+    let start : o + i * count * s ≡ o + i * line = omega (arith, ap (λ (x : ℕ). i * x) e) in
+    rw (← div-add-mod' k count, ← sideBySide-from dat o s (i * count) (k % count), start)
+    (f i row (k % count) (mod-lt k (omega arith)))
 
 -- m rows of `count` samples, from bit `at` of an image and from index o of the lent data on
 module _ (at step w s count m o : ℕ) {row line : ℕ} (er : row ≡ count * step) (el : line ≡ count * s) where

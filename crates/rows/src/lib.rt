@@ -2,6 +2,7 @@
 ghost use mathlib.Core.Path.{_≡_};
 ghost use Prim.Native.Nat.{ℕ, _+_, _*_, _≤_, _<_};
 ghost use lib.ListN.{length};
+ghost use Rattle.samples.specs.Internal.Samples.{SamplesFit};
 ghost use Rattle.rows.specs.Internal.Rows.{Movable, rowsRead, rowsWritten};
 use samples::read::read_samples;
 use samples::write::write_samples;
@@ -85,6 +86,7 @@ pub fn write_rows(
     requires { ⌜ (width ≤ 8 * size) × (size ≤ 8) ⌝ }
     requires { ⌜ ((i : ℕ) → i < rows → Movable (length (now img)) (at + i * row) step width size count) ⌝ }
     requires { ⌜ (0 < rows) × (from + rows * line + count * size ≤ length (now dat) + line) ⌝ }
+    requires { ⌜ (width < 8 * size → (i : ℕ) → i < rows → SamplesFit (now dat) (from + i * line) size width count) ⌝ }
     ensures { λ _. ⌜ now (img .exit) ≡ rowsWritten (now (dat .entry)) from line size width at row step count rows
         (now (img .entry)) ⌝ }
 {

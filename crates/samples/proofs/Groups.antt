@@ -3,7 +3,7 @@
 use mathlib.Core.Path.{_≡_, refl, sym, ap, ap₂, _∙_}
 use mathlib.Core.List.{List}
 use Prim.Native.Nat.{ℕ, zero, suc, _+_, _-_, _*_, _/_, _%_, _^_, _≤_, _<_}
-use native.Mathlib.Nat.{add-zero, add-suc, add-mul, add-assoc, add-sub-of-le, div-mul-le-self, mul-assoc, mul-left-comm, suc-mul, zero-mul, mod-lt}
+use native.Mathlib.Nat.{add-zero, add-suc, add-mul, add-assoc, add-sub-of-le, div-mul-le-self, mul-assoc, mul-left-comm, suc-mul, zero-mul, mod-lt, mod-eq-of-lt}
 use native.Mathlib.Numerals.{add-one}
 use native.Mathlib.Omega.{arith}
 use lib.ListN.{length}
@@ -15,7 +15,7 @@ use Rattle.bits.proofs.Bits.{putBits-add, next-sample}
 use Rattle.bits.proofs.BigEndian.{putBits-bytes}
 use Rattle.bits.proofs.Joined.{putBits-low}
 use Rattle.bits.specs.Values.{sideBySide}
-use Rattle.samples.specs.Internal.Samples.{putSpaced}
+use Rattle.samples.specs.Internal.Samples.{putSpaced, SamplesFit}
 use Rattle.samples.specs.Internal.Groups.{joined}
 use Rattle.samples.proofs.Samples.{length-putSpaced, putSpaced-bytes, putSpaced-ext}
 use Rattle.samples.proofs.Moves.{putSpaced-none}
@@ -42,9 +42,13 @@ putSpaced-add v w p step a (suc n) d =
     (ap (λ (i : ℕ). p + i) (add-mul a n step) ∙ sym (add-assoc p (a * step) (n * step)))
 
 -- samples side by side, from sample a on
-sideBySide-from : (xs : List ℕ) (from s a k : ℕ) → sideBySide xs (from + a * s) s k ≡ sideBySide xs from s (a + k)
+pub sideBySide-from : (xs : List ℕ) (from s a k : ℕ) → sideBySide xs (from + a * s) s k ≡ sideBySide xs from s (a + k)
 unfolding sideBySide
 sideBySide-from xs from s a k = ap (λ (i : ℕ). beAt xs i s) (add-assoc from (a * s) (k * s) ∙ ap (λ (i : ℕ). from + i) (sym (add-mul a k s)))
+
+-- of samples without further bits, the m from sample a on, at index o
+pub fit-part : (xs : List ℕ) (from s w n a m : ℕ) {o : ℕ} → SamplesFit xs from s w n → a + m ≤ n → o ≡ from + a * s → SamplesFit xs o s w m
+fit-part xs from s w n a m f h e k l = rw (e, sideBySide-from xs from s a k) (f (a + k) (omega arith))
 
 -- n more samples, right after the a before
 put-more : (xs : List ℕ) (from s w p step a n : ℕ) (d : List ℕ) {ys zs : List ℕ} → ys ≡ putSpaced (sideBySide xs from s) w p step a d
@@ -66,10 +70,10 @@ pub joined-none : (v : ℕ → ℕ) (w : ℕ) → 0 ≡ joined v w 0
 unfolding joined
 joined-none v w = refl
 
--- one more sample
-pub joined-turn : (v : ℕ → ℕ) (w k : ℕ) {x y z : ℕ} → y ≡ joined v w k → x ≡ v k → z ≡ y * 2 ^ w + x % 2 ^ w → z ≡ joined v w (k + 1)
+-- one more sample, of w bits
+pub joined-turn : (v : ℕ → ℕ) (w k : ℕ) {x y z : ℕ} → v k < 2 ^ w → y ≡ joined v w k → x ≡ v k → z ≡ y * 2 ^ w + x → z ≡ joined v w (k + 1)
 unfolding joined
-joined-turn v w k ey ex ez = rw (ez, ey, ex, add-one)
+joined-turn v w k l ey ex ez = rw (ez, ey, ex, add-one, mod-eq-of-lt l)
 
 pub joined-lt : (v : ℕ → ℕ) (w n : ℕ) → joined v w n < 2 ^ (n * w)
 unfolding joined

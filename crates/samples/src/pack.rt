@@ -4,30 +4,32 @@ ghost use Prim.Native.Nat.{_+_, _-_, _*_, _/_, _%_, _^_, _≤_, _<_};
 ghost use lib.ListN.{length};
 ghost use Rattle.bits.specs.Bits.{putBits, withField};
 ghost use Rattle.bits.specs.Values.{sideBySide};
-ghost use Rattle.samples.specs.Internal.Samples.{samplesWritten};
+ghost use Rattle.samples.specs.Internal.Samples.{samplesWritten, SamplesFit};
 ghost use Rattle.samples.specs.Internal.Groups.{joined};
 use bits::bytes::get_be;
 use bits::bytes::put_be;
 
-// x followed by the low `width` bits of v.
+// x followed by v, a number of `width` bits.
 fn append(x: u64, width: usize, v: u64) -> u64
-    requires { ⌜ (width < 64) × (x < 2 ^ (64 - width)) ⌝ }
-    ensures { λ r. ⌜ r ≡ x * 2 ^ width + v % 2 ^ width ⌝ }
+    requires { ⌜ (width < 64) × (x < 2 ^ (64 - width)) × (v < 2 ^ width) ⌝ }
+    ensures { λ r. ⌜ r ≡ x * 2 ^ width + v ⌝ }
 {
-    (x << width) | (v & ((1 << width) - 1))
+    (x << width) | v
 }
 
-// x with the low `width` bits of v for its `width` bits from bit `low` up.
+// x with v for its `width` bits from bit `low` up.
 fn exchange(x: u64, low: usize, width: usize, v: u64) -> u64
-    requires { ⌜ low + width < 64 ⌝ }
-    ensures { λ r. ⌜ r ≡ withField x low width (v % 2 ^ width) ⌝ }
+    requires { ⌜ (low + width < 64) × (v < 2 ^ width) ⌝ }
+    ensures { λ r. ⌜ r ≡ withField x low width v ⌝ }
 {
-    append(append(x >> (low + width), width, v), low, x)
+    let high = append(x >> (low + width), width, v);
+    append(high, low, x & ((1 << low) - 1))
 }
 
-// Puts the low `width` bits of v into `img` from bit `at` on, by a change of the n bytes from their first byte on.
+// Puts v, a number of `width` bits, into `img` from bit `at` on, by a change of the n bytes from their first byte on.
 fn put_packed(img: &mut [u8], at: usize, width: usize, n: usize, v: u64)
     requires { ⌜ (width + 7 ≤ 8 * n) × (n < 8) × (at / 8 + n ≤ length (now img)) ⌝ }
+    requires { ⌜ v < 2 ^ width ⌝ }
     ensures { λ _. ⌜ now (img .exit) ≡ putBits (now (img .entry)) at width v ⌝ }
 {
     let i = at / 8;
@@ -58,7 +60,7 @@ fn pack_by_bits(
     }
 }
 
-// The same, by a change of `size` + 1 bytes at once for each sample.
+// The same for samples of `width` bits, by a change of `size` + 1 bytes at once for each.
 fn pack_by_bytes(
     dat: &[u8],
     from: usize,
@@ -71,6 +73,7 @@ fn pack_by_bytes(
 )
     requires { ⌜ (width < 8 * size) × (size < 7) × (from + count * size ≤ length (now dat)) ⌝ }
     requires { ⌜ (at + count * step < 2 ^ 63) × ((at + count * step) / 8 + size < length (now img)) ⌝ }
+    requires { ⌜ SamplesFit (now dat) from size width count ⌝ }
     ensures { λ _. ⌜ now (img .exit)
         ≡ samplesWritten (now (dat .entry)) from size width at step count (now (img .entry)) ⌝ }
 {
@@ -94,6 +97,7 @@ fn pack_each(
 )
     requires { ⌜ (width < 8 * size) × (size ≤ 8) × (from + count * size ≤ length (now dat)) ⌝ }
     requires { ⌜ (at + count * step + width < 2 ^ 63) × (at + count * step + width ≤ 8 * length (now img) + step) ⌝ }
+    requires { ⌜ SamplesFit (now dat) from size width count ⌝ }
     ensures { λ _. ⌜ now (img .exit)
         ≡ samplesWritten (now (dat .entry)) from size width at step count (now (img .entry)) ⌝ }
 {
@@ -109,9 +113,10 @@ fn pack_each(
     }
 }
 
-// The low `width` bits of each of `group` samples, one after the other, as one number.
+// `group` samples of `width` bits, one after the other, as one number.
 fn join(dat: &[u8], from: usize, size: usize, width: usize, group: usize) -> u64
     requires { ⌜ (size ≤ 8) × (width < 64) × (group * width ≤ 64) × (from + group * size ≤ length (now dat)) ⌝ }
+    requires { ⌜ SamplesFit (now dat) from size width group ⌝ }
     ensures { λ r. ⌜ r ≡ joined (sideBySide (now (dat .entry)) from size) width group ⌝ }
 {
     let mut acc: u64 = 0;
@@ -122,8 +127,8 @@ fn join(dat: &[u8], from: usize, size: usize, width: usize, group: usize) -> u64
     acc
 }
 
-// n groups of samples, side by side in `dat`: their low `width` bits side by side into `img`, from index q on. A group
-// fills `bytes` bytes.
+// n groups of samples of `width` bits, side by side in `dat`, into `img`, side by side from index q on. A group fills
+// `bytes` bytes.
 fn pack_groups_any(
     dat: &[u8],
     from: usize,
@@ -137,6 +142,7 @@ fn pack_groups_any(
 )
     requires { ⌜ (size ≤ 8) × (width < 64) × (group * width ≡ 8 * bytes) × (bytes ≤ 8) ⌝ }
     requires { ⌜ (from + n * (group * size) ≤ length (now dat)) × (q + n * bytes ≤ length (now img)) ⌝ }
+    requires { ⌜ SamplesFit (now dat) from size width (n * group) ⌝ }
     ensures { λ _. ⌜ now (img .exit)
         ≡ samplesWritten (now (dat .entry)) from size width (8 * q) width (n * group) (now (img .entry)) ⌝ }
 {
@@ -160,6 +166,7 @@ fn pack_groups(
 )
     requires { ⌜ (size ≤ 8) × (width < 64) × (group * width ≡ 8 * bytes) × (bytes ≤ 8) ⌝ }
     requires { ⌜ (from + n * (group * size) ≤ length (now dat)) × (q + n * bytes ≤ length (now img)) ⌝ }
+    requires { ⌜ SamplesFit (now dat) from size width (n * group) ⌝ }
     ensures { λ _. ⌜ now (img .exit)
         ≡ samplesWritten (now (dat .entry)) from size width (8 * q) width (n * group) (now (img .entry)) ⌝ }
 {
@@ -217,6 +224,7 @@ fn pack_grouped(
 )
     requires { ⌜ (width < 8 * size) × (size ≤ 8) × (from + count * size ≤ length (now dat)) ⌝ }
     requires { ⌜ (at + count * width + width < 2 ^ 63) × (at + count * width ≤ 8 * length (now img)) ⌝ }
+    requires { ⌜ SamplesFit (now dat) from size width count ⌝ }
     ensures { λ _. ⌜ now (img .exit)
         ≡ samplesWritten (now (dat .entry)) from size width at width count (now (img .entry)) ⌝ }
 {
@@ -253,6 +261,7 @@ fn pack_side_by_side(
 )
     requires { ⌜ (width < 8 * size) × (size ≤ 8) × (from + count * size ≤ length (now dat)) ⌝ }
     requires { ⌜ (at + count * width + width < 2 ^ 63) × (at + count * width ≤ 8 * length (now img)) ⌝ }
+    requires { ⌜ SamplesFit (now dat) from size width count ⌝ }
     ensures { λ _. ⌜ now (img .exit)
         ≡ samplesWritten (now (dat .entry)) from size width at width count (now (img .entry)) ⌝ }
 {
@@ -269,7 +278,7 @@ fn pack_side_by_side(
     );
 }
 
-// Samples of `size` bytes, side by side from index `from` of `dat` on: their low `width` bits into `img`, one every
+// Samples of `width` bits in `size` bytes each, side by side from index `from` of `dat` on, into `img`, one every
 // `step` bits from bit `at` on.
 pub fn pack(
     dat: &[u8],
@@ -283,6 +292,7 @@ pub fn pack(
 )
     requires { ⌜ (width < 8 * size) × (size ≤ 8) × (from + count * size ≤ length (now dat)) ⌝ }
     requires { ⌜ (at + count * step + width < 2 ^ 63) × (at + count * step + width ≤ 8 * length (now img) + step) ⌝ }
+    requires { ⌜ SamplesFit (now dat) from size width count ⌝ }
     ensures { λ _. ⌜ now (img .exit)
         ≡ samplesWritten (now (dat .entry)) from size width at step count (now (img .entry)) ⌝ }
 {

@@ -2,7 +2,7 @@
 ghost use mathlib.Core.Path.{_≡_};
 ghost use Prim.Native.Nat.{_+_, _*_, _%_, _^_, _≤_, _<_};
 ghost use lib.ListN.{length};
-ghost use Rattle.samples.specs.Internal.Samples.{samplesWritten};
+ghost use Rattle.samples.specs.Internal.Samples.{samplesWritten, SamplesFit};
 use crate::pack::pack;
 use bits::bytes::copy;
 use bits::bytes::get_be;
@@ -59,7 +59,7 @@ fn scatter(
     }
 }
 
-// `count` samples of `size` bytes, side by side from index `from` of `dat` on: their low `width` bits go to `img`, one
+// `count` samples of `width` bits in `size` bytes each, side by side from index `from` of `dat` on, go to `img`, one
 // every `step` bits from bit `at` on.
 pub fn write_samples(
     dat: &[u8],
@@ -74,6 +74,7 @@ pub fn write_samples(
     requires { ⌜ (width ≤ 8 * size) × (size ≤ 8) × (from + count * size ≤ length (now dat)) ⌝ }
     requires { ⌜ (width ≡ 8 * size → (at % 8 ≡ 0) × (step % 8 ≡ 0)) ⌝ }
     requires { ⌜ (at + count * step + width < 2 ^ 63) × (at + count * step + width ≤ 8 * length (now img) + step) ⌝ }
+    requires { ⌜ (width < 8 * size → SamplesFit (now dat) from size width count) ⌝ }
     ensures { λ _. ⌜ now (img .exit)
         ≡ samplesWritten (now (dat .entry)) from size width at step count (now (img .entry)) ⌝ }
 {

@@ -1,12 +1,14 @@
 -- A block of the image stored is its layout stored.
 -- Assumes nothing.
-use Prim.Native.Nat.{ℕ, _*_, _/_, _≤_, _<_}
-use mathlib.Core.Path.{_≡_, sym, ap, _∙_}
+use Prim.Native.Nat.{ℕ, _*_, _/_, _^_, _≤_, _<_}
+use mathlib.Core.Path.{_≡_, sym, ap, _∙_, subst}
 use mathlib.Core.Bool.{Bool, true, false}
 use mathlib.Core.List.{List}
+use native.Mathlib.Nat.{zero-add, mul-div-cancel}
 use native.Mathlib.Omega.{arith}
 use lib.ListN.{length, replicate}
-use Rattle.bits.specs.Bits.{putBits}
+use Rattle.bits.specs.Bits.{putBits, beAt}
+use Rattle.bits.specs.Values.{sideBySide}
 use Rattle.common.specs.Over.{over}
 use Rattle.common.proofs.Turns.{iter-ext}
 use Rattle.grid.specs.declared.Grid.{Grid}
@@ -18,7 +20,10 @@ use Rattle.grid.proofs.SamplePlaces.{end-in}
 use Rattle.marks.specs.Marks.{markWords}
 use Rattle.grid.specs.Internal.BlockLayouts.{layoutOf}
 use Rattle.grid.proofs.BlockLayouts.{place-is, run-is, end-is, sound}
+use Rattle.samples.specs.Internal.Samples.{SamplesFit}
 use Rattle.moves.specs.Internal.Stores.{Writable, putBlock as putIn, clearRuns as clearIn, storeBy as storeByIn, storeBlock as storeIn, dataAt as dataIn}
+use Rattle.calls.specs.Orders.{q26}
+use Rattle.calls.proofs.Fit.{fit-at}
 use Rattle.calls.specs.Writes.{dataAt, putBlock, clearRuns, storeBy, storeBlock}
 
 -- the word of a block's mark is one of the words
@@ -48,7 +53,20 @@ store-is g row column dat image = store-by (byteMultiple g) g row column dat ima
 
 pub writable : (g : Grid) → Accepted g → (row column : ℕ) → Block g row column → (dat image : List ℕ)
     → length dat ≡ g .bands * actualRows g row * actualColumns g column * sampleBytes g → imageBytes g ≤ length image
+    → (g .nbpp < 8 * sampleBytes g → SamplesFit dat 0 (sampleBytes g) (g .nbpp) (g .bands * actualRows g row * actualColumns g column))
     → Writable (layoutOf g row column) dat image
-writable g a row column t dat image e h =
+writable g a row column t dat image e h fit =
     let f = facts g a in
-    record { accepted = sound g f row column t; data-is = e; image-holds = omega (arith, end-is g f row column t, end-in g f row column t) }
+    record { accepted = sound g f row column t; data-is = e; image-holds = omega (arith, end-is g f row column t, end-in g f row column t); fits = fit }
+
+-- data that pass questions 14 and 26 have no sample with a bit above NBPP
+pub samples-fit : (g : Grid) → Accepted g → (row column : ℕ) (dat : List ℕ)
+    → length dat ≡ g .bands * actualRows g row * actualColumns g column * sampleBytes g → q26 g dat ≡ true
+    → SamplesFit dat 0 (sampleBytes g) (g .nbpp) (g .bands * actualRows g row * actualColumns g column)
+unfolding sideBySide
+samples-fit g a row column dat e fit k h =
+    let samples : ℕ = g .bands * actualRows g row * actualColumns g column in
+    let pos : 0 < sampleBytes g = omega (arith, facts g a .sides .nbpp-pos) in
+    let count : samples ≡ length dat / sampleBytes g = sym (mul-div-cancel samples pos) ∙ ap (λ (n : ℕ). n / sampleBytes g) (sym e) in
+    subst (λ (i : ℕ). beAt dat i (sampleBytes g) < 2 ^ g .nbpp) (sym (zero-add (k * sampleBytes g)))
+    (fit-at g dat fit k (subst (λ (n : ℕ). k < n) count h))

@@ -1,6 +1,8 @@
 // The questions of the calls that write.
 ghost use mathlib.Core.Path.{_≡_};
-ghost use Rattle.calls.specs.Orders.{startNumber, skipNumber, progressNumber, writeNumber};
+ghost use Rattle.calls.specs.Orders.{startNumber, skipNumber, progressNumber, q26, writeNumber};
+ghost use lib.ListN.{length};
+use fits::all_fit;
 use grid::Grid;
 
 // Questions 1 to 4 and 12, for so many mark words.
@@ -48,7 +50,7 @@ pub fn block_number(grid: Grid, image: usize, words: usize, block_row: u32, bloc
     0
 }
 
-// The same, then questions 13 and 14.
+// The same, then questions 13, 14 and 26.
 pub fn write_number(
     grid: Grid,
     image: usize,
@@ -58,9 +60,10 @@ pub fn write_number(
     bands: usize,
     rows: usize,
     columns: usize,
-    data: usize,
+    data: &[u8],
 ) -> u32
-    ensures { λ r. ⌜ r ≡ writeNumber grid image words «block_row» «block_col» bands rows columns «data» ⌝ }
+    ensures { λ r. ⌜ r ≡ writeNumber grid image words «block_row» «block_col» bands rows columns
+        (length (now («data» .entry))) (q26 grid (now («data» .entry))) ⌝ }
 {
     let number = block_number(grid, image, words, block_row, block_col);
     if number != 0 {
@@ -75,8 +78,12 @@ pub fn write_number(
     if columns != grid.actual_columns(block_col as usize) {
         return 13;
     }
-    if data != bands * rows * columns * grid.sample_bytes() {
+    let size = grid.sample_bytes();
+    if data.len() != bands * rows * columns * size {
         return 14;
+    }
+    if !all_fit(data, size, grid.nbpp as usize) {
+        return 26;
     }
     0
 }

@@ -42,7 +42,7 @@ pub fn start(image: &mut [u8], marks: &mut [u64], grid: Grid) -> Answer
 }
 
 // Stores the samples of a block, which stand in `data` band by band, row by row, and marks it. A block may be written
-// again.
+// again. A sample with a bit above NBPP is refused.
 pub fn encode_block(
     image: &mut [u8],
     marks: &mut [u64],
@@ -66,7 +66,7 @@ pub fn encode_block(
         bands,
         rows,
         columns,
-        data.len(),
+        data,
     );
     if number != 0 {
         return answer(number);

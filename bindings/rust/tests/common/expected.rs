@@ -1,9 +1,9 @@
-//! Answers of document 01 that follow from the grid and the lengths, the marks or the table, and those of the reader of
-//! a subheader, computed here.
+//! Answers that follow from the grid and the lengths, the marks, the samples or the table, and those of the reader of a
+//! subheader, computed here.
 
 use gezdunar::{
     Grid, ImageCompression, ImageDataMask, ImageSubheader, InterleaveMode, Parsed, PixelJustification, PixelValueType,
-    Refusal, EMPTY_BLOCK_OFFSET,
+    Refusal, Shape, EMPTY_BLOCK_OFFSET,
 };
 
 /// A product of counts of an accepted grid.
@@ -76,6 +76,37 @@ fn marked(marks: &[u64], grid: &Grid) -> Result<Vec<bool>, Refusal> {
         return Err(Refusal::MarksTooShort);
     }
     Ok((0..blocks(grid)).map(|i| marks[i / 64] >> (i % 64) & 1 == 1).collect())
+}
+
+/// Is the number of every sample below 2^NBPP?
+fn samples_fit(grid: &Grid, data: &[u8]) -> bool {
+    let mut samples = data.chunks_exact(grid.nbpp.div_ceil(8) as usize);
+    let number = |sample: &[u8]| sample.iter().fold(0_u128, |number, &byte| number << 8 | u128::from(byte));
+    samples.all(|sample| number(sample) < 1 << grid.nbpp)
+}
+
+/// The answer of a write, by what it is lent.
+pub fn encode_block(
+    (image, marks): (&[u8], &[u64]),
+    grid: &Grid,
+    (row, column): (u32, u32),
+    shape: Shape,
+    data: &[u8],
+) -> Result<(), Refusal> {
+    grid.check()?;
+    if image.len() < blocks(grid) * block_bytes(grid) {
+        return Err(Refusal::ImageTooShort);
+    }
+    marked(marks, grid)?;
+    block_inside(grid, row, column)?;
+    let (last_row, last_column) = last_actual(grid, row, column);
+    if shape != (Shape { bands: grid.bands as usize, rows: last_row + 1, columns: last_column + 1 }) {
+        return Err(Refusal::OtherShape);
+    }
+    if data.len() != shape.bytes(grid.nbpp.div_ceil(8) as usize) {
+        return Err(Refusal::DataLength);
+    }
+    samples_fit(grid, data).then_some(()).ok_or(Refusal::SampleBits)
 }
 
 pub fn progress(marks: &[u64], grid: &Grid) -> Result<usize, Refusal> {

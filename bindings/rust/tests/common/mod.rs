@@ -72,6 +72,12 @@ pub fn samples(grid: &Grid, bands: &[u32], row: usize, column: usize, rows: usiz
     out.into_boxed_slice()
 }
 
+/// The big-endian bytes of so many samples that are all the largest of NBPP bits.
+pub fn largest(grid: &Grid, count: usize) -> Box<[u8]> {
+    let bytes = grid.nbpp.div_ceil(8) as usize;
+    (u64::MAX >> (64 - grid.nbpp)).to_be_bytes()[8 - bytes..].repeat(count).into_boxed_slice()
+}
+
 /// The bytes of a block of the plain picture, of these bands.
 pub fn block_samples(grid: &Grid, bands: &[u32], block_row: u32, block_col: u32) -> Box<[u8]> {
     let (row, column) = (block_row * grid.nppbv, block_col * grid.nppbh);

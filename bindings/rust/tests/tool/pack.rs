@@ -1,6 +1,6 @@
 //! `pack`.
 
-use crate::common::{block_samples, blocks, samples};
+use crate::common::{block_samples, blocks, largest, samples};
 use crate::place::{options, Place};
 use gezdunar::{Frame, Grid, InterleaveMode};
 
@@ -76,7 +76,7 @@ fn an_input_that_ends_early_leaves_a_hole() {
 #[test]
 fn a_refused_pack_keeps_the_old_file() {
     let grid = odd(InterleaveMode::B);
-    let place = Place::with("raw", &raw(&grid)[1..]);
+    let place = Place::with("raw", &raw(&grid)[..461]);
     place.put("image", b"old");
     place.run(&format!("{PACK} {}", options(&grid))).failed(1, &["refused with 15"]);
     assert_eq!((place.get("image"), place.names()), (b"old".to_vec(), vec!["image".to_owned(), "raw".to_owned()]));
@@ -93,6 +93,71 @@ fn a_longer_input_is_refused() {
     let ran = place.run(&format!("{PACK} {}", options(&grid)));
     ran.failed(1, &["refused with 14: ", "question 14: ", "raw has 463 bytes; the picture's samples take 462"]);
     assert_eq!(place.names(), ["raw"]);
+}
+
+/// The plain picture with one sample replaced.
+fn raw_with(grid: &Grid, [band, row, column]: [usize; 3], sample: u32) -> Vec<u8> {
+    let (mut bytes, size) = (raw(grid), grid.nbpp.div_ceil(8) as usize);
+    let place = (band * grid.nrows as usize + row) * grid.ncols as usize + column;
+    bytes[place * size..(place + 1) * size].copy_from_slice(&sample.to_be_bytes()[4 - size..]);
+    bytes
+}
+
+#[test]
+fn a_sample_that_does_not_fit_is_named() {
+    for imode in InterleaveMode::ALL {
+        // The sample's place in the picture, the sample, and its block: the first, one inside, the last.
+        let wrong = [
+            ([0, 0, 0], 0x1000, "4096 (0x1000)", (0, 0)),
+            ([1, 4, 9], 0xF123, "61731 (0xF123)", (1, 2)),
+            ([2, 6, 10], 0xFFFF, "65535 (0xFFFF)", (2, 2)),
+        ];
+        for (sample, number, words, (block_row, block_col)) in wrong {
+            let grid = odd(imode);
+            let place = Place::with("raw", &raw_with(&grid, sample, number));
+            place.put("image", b"old");
+            let ran = place.run(&format!("{PACK} {}", options(&grid)));
+            let [band, row, column] = sample;
+            let refused = "gezdunar pack: refused with 26: a sample has a bit above NBPP\n";
+            let question = "question 26: Is every bit above NBPP zero in each sample?\n";
+            let block = format!("block row {block_row}, block column {block_col}");
+            let found = format!("band {band}, row {row}, column {column} of the picture has the sample {words}");
+            let facts = format!("{block}: {found}; the largest of 12 bits is 4095\n");
+            ran.failed(1, &[]);
+            assert_eq!(ran.err, format!("{refused}{question}{facts}"));
+            assert_eq!(place.get("image"), b"old");
+            assert_eq!(place.names(), ["image", "raw"]);
+        }
+    }
+}
+
+#[test]
+fn of_several_samples_that_do_not_fit_the_first_is_named() {
+    let grid = Grid { nbpp: 1, ..odd(InterleaveMode::P) };
+    let mut bytes = raw(&grid);
+    // In band 2 from row 0, column 3 to row 1, column 3.
+    bytes[2 * 77 + 3..2 * 77 + 15].fill(2);
+    let place = Place::with("raw", &bytes);
+    let facts = "block row 0, block column 0: band 2, row 0, column 3 of the picture has the sample 2 (0x2)";
+    place.run(&format!("{PACK} {}", options(&grid))).failed(1, &[&format!("{facts}; the largest of 1 bit is 1\n")]);
+    assert_eq!(place.names(), ["raw"]);
+    // A block that is skipped is not looked at.
+    let facts = "block row 0, block column 1: band 2, row 0, column 4 of the picture has the sample 2 (0x2)";
+    place.run(&format!("{PACK} {} --skip 0,0", options(&grid))).failed(1, &[facts]);
+    place.run(&format!("{PACK} {} --skip 0,0 --skip 0,1 --skip 0,2", options(&grid))).done();
+    assert_eq!(place.get("image"), image(&grid, &[(0, 0), (0, 1), (0, 2)]));
+}
+
+#[test]
+fn the_largest_samples_are_packed() {
+    for nbpp in crate::common::WIDTHS {
+        let grid = Grid { nbpp, ..odd(InterleaveMode::S) };
+        let place = Place::with("raw", &largest(&grid, 3 * 7 * 11));
+        place.run(&format!("{PACK} {}", options(&grid))).done();
+        let window = "window --image image --output back --row 0 --column 0 --window-rows 7 --window-columns 11";
+        place.run(&format!("{window} {}", options(&grid))).done();
+        assert_eq!(place.get("back"), place.get("raw"), "{nbpp}");
+    }
 }
 
 #[test]

@@ -8,6 +8,7 @@ use lib.ListN.{length, replicate}
 use Rattle.bits.specs.Bits.{bitOf, bitAt, putBits, beAt, Bytes}
 use Rattle.common.specs.Over.{over}
 use Rattle.common.specs.Turns.{iter}
+use Rattle.samples.specs.Internal.Samples.{SamplesFit}
 use Rattle.layout.specs.declared.BlockLayout.{BlockLayout}
 use Rattle.layout.specs.Internal.Layout.{sampleBytes, byteMultiple, place, blockEnd, Sample, Sound}
 use Rattle.moves.specs.Internal.Puts.{Samples, Target, Puts}
@@ -47,11 +48,14 @@ pub record SampleBit (l : BlockLayout) (b r c i : ℕ) : Type 0 where
   pub sample : Sample l b r c
   pub in-i : i < l .nbpp
 
--- a layout, planes that are as long as its samples, and bytes that reach the block's end
+-- a layout, planes that are as long as its samples and hold no further bits, and bytes that reach the block's end
 pub record Writable (l : BlockLayout) (dat image : List ℕ) : Type 0 where
   pub accepted : Sound l
   pub data-is : length dat ≡ l .bands * l .rows * l .columns * sampleBytes l
   pub image-holds : blockEnd l ≤ length image
+  -- at widths that are no byte multiples no sample has a bit above NBPP
+  pub fits : l .nbpp < 8 * sampleBytes l
+      → SamplesFit dat 0 (sampleBytes l) (l .nbpp) (l .bands * l .rows * l .columns)
 
 -- ---- on the way
 

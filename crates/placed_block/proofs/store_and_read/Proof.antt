@@ -7,7 +7,7 @@ use native.Mathlib.Omega.{arith}
 use Rattle.common.specs.Tests.{pick}
 use Rattle.layout.specs.Bands.{bandCount}
 use Rattle.common.proofs.Flags.{yes}
-use Rattle.placed_block.proofs.PlacedFits.{placed-sound, placed-end}
+use Rattle.placed_block.proofs.PlacedFits.{placed-sound, placed-end, twelve-bits}
 
 returns : tie.Need-returns
 returns c = search needs
@@ -31,7 +31,9 @@ placed-requires : tie.Need-placed-requires
 placed-requires c κs = search needs
 
 store-block-requires : tie.Need-store-block-requires
-store-block-requires c κs = rw (c .placed .ensures) (record { accepted = placed-sound; data-is = omega arith; image-holds = omega (arith, placed-end) })
+store-block-requires c κs =
+    let s = c .before .before .before .before .before .before .before .before .before .before .before .before in
+    rw (c .placed .ensures) (record { accepted = placed-sound; data-is = omega arith; image-holds = omega (arith, placed-end); fits = λ _. twelve-bits _ (s .pre) })
 
 placed-requires-2 : tie.Need-placed-requires-2
 placed-requires-2 c κs = search needs

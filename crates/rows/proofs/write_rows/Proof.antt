@@ -12,7 +12,7 @@ use Rattle.common.specs.Turns.{iter}
 use Rattle.common.proofs.Turns.{iter-none, iter-turn}
 use Rattle.samples.proofs.Moves.{Ends, ends}
 use Rattle.rows.specs.Internal.Rows.{Movable, rowWritten}
-use Rattle.rows.proofs.OneRow.{one-row, written-as-one}
+use Rattle.rows.proofs.OneRow.{one-row, fit-as-one, written-as-one}
 use Rattle.rows.proofs.WholeBytes.{last-row, rows-end-beside, rows-written}
 use Rattle.rows.proofs.write_rows.Statement.{statement}
 use Rattle.rows.proofs.write_rows.Tie as tie
@@ -34,7 +34,7 @@ one : (c : tie.Then3 Inv-loop μ-loop)
 one c =
     let p = c .before .before .before .before .before .pre .1 in
     one-row _ _ _ _ _ _ _ (eqb-true _ _ (c .before .if2 .taken)) (eqb-true _ _ (c .if3 .taken)) _ _
-    (c .before .before .if1 .taken, p .1 .0, p .1 .1) (p .0)
+    (c .before .before .if1 .taken, p .1 .0 .0, p .1 .0 .1) (p .0)
 
 -- in a turn: row i can be written, and ends within the rows
 row-in : (c : tie.In-loop Inv-loop μ-loop)
@@ -46,21 +46,27 @@ row-in c =
     (s .pre .1 .0 (c .before .loop .i) (c .loop-test .taken), ends (c .before .loop .i) _ _ _ (c .loop-test .taken))
 
 mul-if2 : tie.Need-mul-if2 Inv-loop μ-loop
-mul-if2 c = let p = c .before .before .before .pre .1 in omega (arith, p .0 0 (p .1 .0) .fits)
+mul-if2 c = let p = c .before .before .before .pre .1 in omega (arith, p .0 0 (p .1 .0 .0) .fits)
 
 mul-if3 : tie.Need-mul-if3 Inv-loop μ-loop
 mul-if3 c =
     let s = c .before .before .before .before in
-    omega (arith, s .pre .1 .1, last-row _ (s .args .line) (s .pre .1 .1 .0))
+    omega (arith, s .pre .1 .1 .0, last-row _ (s .args .line) (s .pre .1 .1 .0 .0))
 
 mul-write-samples : tie.Need-mul-write-samples Inv-loop μ-loop
 mul-write-samples c = omega (arith, one (c .before) .2)
 
 write-samples-requires : tie.Need-write-samples-requires Inv-loop μ-loop
 write-samples-requires c κs =
-    let p = c .before .before .before .before .before .before .pre .0 in
-    let r = one (c .before) in
-    ((p .0, p .1, r .1), (r .0 .whole, (r .0 .fits, r .0 .inside)))
+    let b = c .before in
+    let p = b .before .before .before .before .before .pre in
+    let r = one b in (
+      (p .0 .0, p .0 .1, r .1),
+      (
+        r .0 .whole,
+        ((r .0 .fits, r .0 .inside), λ l. fit-as-one _ _ _ _ _ _ (eqb-true _ _ (b .if3 .taken)) (p .1 .1 .1 l)),
+      ),
+    )
 
 same-length : tie.Need-same-length Inv-loop μ-loop
 same-length c = search needs
@@ -78,7 +84,7 @@ copy-rows-requires : tie.Need-copy-rows-requires Inv-loop μ-loop
 copy-rows-requires c κs =
     let b = c .before in
     let p = b .before .before .before .before .before .pre .1 in
-    (p .1, rows-end-beside _ _ _ _ _ _ _ _ (eqb-true _ _ (b .if5 .taken)) (p .0) (b .before .if4 .taken) (p .1 .0))
+    (p .1 .0, rows-end-beside _ _ _ _ _ _ _ _ (eqb-true _ _ (b .if5 .taken)) (p .0) (b .before .if4 .taken) (p .1 .0 .0))
 
 same-length-2 : tie.Need-same-length-2 Inv-loop μ-loop
 same-length-2 c = search needs
@@ -111,8 +117,14 @@ write-samples-requires-2 c κs =
     let s = c .before .before .before .before .before .before .before in
     let p = s .pre .0 in
     let r = row-in (c .before) in (
-      (p .0, p .1, omega (arith, s .pre .1 .1 .1, r .1)),
-      (r .0 .whole, (r .0 .fits, omega (arith, r .0 .inside, c .before .before .loop .inv .1))),
+      (p .0, p .1, omega (arith, s .pre .1 .1 .0 .1, r .1)),
+      (
+        r .0 .whole,
+        (
+          (r .0 .fits, omega (arith, r .0 .inside, c .before .before .loop .inv .1)),
+          λ l. s .pre .1 .1 .1 l (c .before .before .loop .i) (c .before .loop-test .taken),
+        ),
+      ),
     )
 
 add-i : tie.Need-add-i Inv-loop μ-loop

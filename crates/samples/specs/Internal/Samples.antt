@@ -2,7 +2,7 @@
 -- bytes.
 -- Assumes nothing.
 use mathlib.Core.List.{List}
-use Prim.Native.Nat.{ℕ, zero, suc, _+_, _*_}
+use Prim.Native.Nat.{ℕ, zero, suc, _+_, _*_, _^_, _<_}
 use Rattle.common.specs.Over.{over}
 use Rattle.bits.specs.Bits.{bitsAt, putBits}
 use Rattle.bits.specs.Values.{values, sideBySide}
@@ -25,3 +25,7 @@ samplesRead xs at step w s count to ys = over ys to (values (spaced xs at step w
 -- of ys on, one every `step` bits
 abbrev pub samplesWritten : List ℕ → (from s w at step count : ℕ) → List ℕ → List ℕ
 samplesWritten dat from s w at step count ys = putSpaced (sideBySide dat from s) w at step count ys
+
+-- `count` samples of s bytes, side by side from index `from` of dat on, have no bit above their low w
+abbrev pub SamplesFit : List ℕ → (from s w count : ℕ) → Type 0
+SamplesFit dat from s w count = (k : ℕ) → k < count → sideBySide dat from s k < 2 ^ w

@@ -6,11 +6,11 @@ use denote.Ref.{now}
 use lib.ListN.{length}
 use Rattle.grid.specs.Layout.{Block}
 use Rattle.calls.specs.Writes.{unchanged, write}
-use Rattle.calls.specs.Orders.{writeNumber}
-use Rattle.calls.proofs.Numbers.{Enough, write-facts, write-data}
+use Rattle.calls.specs.Orders.{q26, writeNumber}
+use Rattle.calls.proofs.Numbers.{Enough, write-facts, write-data, write-fit}
 use Rattle.common.specs.Questions.{outcome}
 use Rattle.common.proofs.Questions.{refused-by}
-use Rattle.writing.proofs.Stores.{mark-in, writable, store-is}
+use Rattle.writing.proofs.Stores.{mark-in, writable, samples-fit, store-is}
 use Rattle.writing.proofs.encode_block.Statement.{statement}
 use Rattle.writing.proofs.encode_block.Tie as tie
 
@@ -21,12 +21,13 @@ passed c = c .before .before .before
 -- the call is accepted, and what that tells
 zero : (c : tie.Else1)
     → let a = c .before .before .before .before .before .args in
-    writeNumber (a .grid) (length (now (a .image))) (length (now (a .marks))) (a .block-row) (a .block-col) (a .bands) (a .rows) (a .columns) (length (now (a .«data»))) ≡ 0
+    writeNumber (a .grid) (length (now (a .image))) (length (now (a .marks))) (a .block-row) (a .block-col) (a .bands) (a .rows) (a .columns) (length (now (a .«data»)))
+    (q26 (a .grid) (now (a .«data»))) ≡ 0
 zero c = sym (c .before .write-number .ensures) ∙ c .if1 .left
 
 enough : (c : tie.Else1)
     → let a = c .before .before .before .before .before .args in Enough (a .grid) (length (now (a .image))) (length (now (a .marks))) × Block (a .grid) (a .block-row) (a .block-col)
-enough c = write-facts _ _ _ _ _ _ _ _ _ (zero c)
+enough c = write-facts _ _ _ _ _ _ _ _ _ _ (zero c)
 
 write-number-requires : tie.Need-write-number-requires
 write-number-requires c κs = search needs
@@ -49,7 +50,10 @@ store-block-requires : tie.Need-store-block-requires
 store-block-requires c κs =
     let h = c .before .before in
     let k = enough h in
-    rw (c .block-layout .ensures) (writable _ (k .0 .accepted) _ _ (k .1) _ _ (write-data _ _ _ _ _ _ _ _ _ (zero h)) (k .0 .bytes))
+    let exact = write-data _ _ _ _ _ _ _ _ _ _ (zero h) in
+    rw (c .block-layout .ensures)
+    (writable _ (k .0 .accepted) _ _ (k .1) _ _ exact (k .0 .bytes)
+    (λ narrow. samples-fit _ (k .0 .accepted) _ _ _ exact (write-fit _ _ _ _ _ _ _ _ _ _ (zero h))))
 
 block-index-requires : tie.Need-block-index-requires
 block-index-requires c κs = let k = enough (passed (c .before .before .before)) in (k .0 .accepted, k .1)

@@ -38,6 +38,7 @@ pub fn question(number: u32) -> &'static str {
             "Is PVTYPE INT, or SI, R, C or B padded with spaces, PJUST R or L, IC NC or NM, IMODE B, P, R or S, \
              and ABPP at most 99?"
         }
+        26 => "Is every bit above NBPP zero in each sample?",
         99 => "Is the mode B, P, R or S?",
         _ => "Not known to this tool.",
     }

@@ -2,10 +2,11 @@
 -- Assumes nothing.
 use borrow.Author.Needs.{needs}
 use mathlib.Core.Path.{_≡_, ap}
-use Prim.Native.Nat.{_+_, _-_, _*_, _≤_}
+use Prim.Native.Nat.{ℕ, _+_, _-_, _*_, _≤_, _<_}
 use native.Mathlib.Omega.{arith}
 use denote.Ref.{now}
 use lib.ListN.{length}
+use Rattle.samples.specs.Internal.Samples.{SamplesFit}
 use Rattle.layout.specs.declared.Strides.{Strides}
 use Rattle.layout.specs.Internal.Layout.{Sample}
 use Rattle.layout.specs.Internal.Spacing.{columnStride}
@@ -15,7 +16,7 @@ use Rattle.moves.specs.Internal.Puts.{InRow, Puts}
 use Rattle.moves.specs.Internal.Stores.{dataAt, imageTarget}
 use Rattle.moves.proofs.Putting.{puts-none, row-then}
 use Rattle.moves.proofs.Pieces.{in-line, can-move}
-use Rattle.moves.proofs.StorePieces.{data-end, run-put}
+use Rattle.moves.proofs.StorePieces.{data-end, row-fits, run-put}
 use Rattle.moves.proofs.runs.put_row.Statement.{statement}
 use Rattle.moves.proofs.runs.put_row.Tie as tie
 
@@ -58,6 +59,24 @@ in-dat c =
     in-line _ _ _ _ (s .args .count) _ (n .before .sample-bytes .ensures)
     (omega (arith, c .run-from .ensures .count-le, c .before .loop-test .taken)) (omega (arith, s .pre .1 .1 .1))
 
+-- they have no further bits
+fit-in : (c : tie.After-run-from Inv-loop μ-loop)
+    → let n = numbers (c .before) in
+    let a = start n .args in
+    let size = n .before .sample-bytes .result in
+    a .layout .nbpp < 8 * size
+    → SamplesFit (now (a .dat)) (a .from + c .before .before .loop .done * size) size (a .layout .nbpp)
+    (c .run-from .result .count)
+fit-in c =
+    let n = numbers (c .before) in
+    let s = start n in
+    let t = here (c .before) in
+    let d : ℕ = c .before .before .loop .done in
+    row-fits (s .pre .0) (s .args .b) (s .args .r) (s .args .c + d) _ (t .in-b) (t .in-r)
+    (omega (arith, c .run-from .ensures .count-le, s .pre .1 .1 .0, c .before .loop-test .taken))
+    (omega (arith, s .pre .1 .1 .1, ap (λ (x : ℕ). d * x) (n .before .sample-bytes .ensures)))
+    (n .before .sample-bytes .ensures)
+
 -- the turn at whose end the loop goes on
 abbrev turn : tie.After-struct-known2 Inv-loop μ-loop → tie.After-run-from Inv-loop μ-loop
 turn c = c .before .before .before .before .before
@@ -99,7 +118,7 @@ write-samples-requires c κs =
     let e = h .inv .1 .size in
     let m = c .before .run-from .ensures .movable (length (h .image)) (omega (arith, w .image-holds)) in
     let q = can-move _ _ _ _ _ _ (n .before .sample-bytes .ensures) (step-is n) (sample-size _ (w .accepted)) m in
-    ((q .0 .0, q .0 .1, in-dat (c .before)), (q .1, (q .2, q .3)))
+    ((q .0 .0, q .0 .1, in-dat (c .before)), (q .1, ((q .2, q .3), fit-in (c .before))))
 
 add-done : tie.Need-add-done Inv-loop μ-loop
 add-done c = omega (arith, turn c .run-from .ensures .count-le, turn c .before .loop-test .taken)

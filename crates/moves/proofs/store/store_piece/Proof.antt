@@ -12,7 +12,7 @@ use Rattle.moves.specs.declared.order.Way.the-variants.{Rows, Pixels, Ru
 use Rattle.moves.specs.Internal.Orders.{WayFits}
 use Rattle.moves.proofs.Putting.{puts-less}
 use Rattle.moves.proofs.Pieces.{to-fits, at-fits, rows-room, bands-room, rows-move, pixels-end}
-use Rattle.moves.proofs.StorePieces.{PlacedBlock, placed-block, index-is, rows-put, pixels-put}
+use Rattle.moves.proofs.StorePieces.{PlacedBlock, placed-block, index-is, rows-fit, rows-put, pixels-put}
 use Rattle.moves.proofs.store.store_piece.Statement.{statement}
 use Rattle.moves.proofs.store.store_piece.Tie as tie
 
@@ -58,7 +58,13 @@ write-rows-requires c κs =
     let w = way-fits s Rows (at .before .enum-told .given .1) in
     let m = rows-move (placed s) (w .0) _ (first-band s) (at .at2 .ensures) in (
       (m .bits-le, m .bytes-le),
-      (m .movable, (s .pre .1 .1 .0 .in-rows .some, rows-room (placed s) (from .at .ensures))),
+      (
+        m .movable,
+        (
+          (s .pre .1 .1 .0 .in-rows .some, rows-room (placed s) (from .at .ensures)),
+          rows-fit (s .pre .1 .0) (placed s) (s .pre .1 .1 .0) (w .0) (at .at2 .ensures) (from .at .ensures),
+        ),
+      ),
     )
 
 enum-told-2 : tie.Need-enum-told-2

@@ -31,6 +31,18 @@ seldom-more-requires c κs = search needs
 returns : tie.Need-returns
 returns c = search needs
 
+slice-aggregate-fit : tie.Need-slice-aggregate-fit
+slice-aggregate-fit c = search needs
+
+fit-requires : tie.Need-fit-requires
+fit-requires c κs = search needs
+
+slice-aggregate-seldom-unfit : tie.Need-slice-aggregate-seldom-unfit
+slice-aggregate-seldom-unfit c = search needs
+
+seldom-unfit-requires : tie.Need-seldom-unfit-requires
+seldom-unfit-requires c κs = search needs
+
 array-share-prefix-data : tie.Need-array-share-prefix-data
 array-share-prefix-data c = search needs
 
@@ -70,6 +82,10 @@ random-write-spec =
     product-requires-3
     seldom-more-requires
     returns
+    slice-aggregate-fit
+    fit-requires
+    slice-aggregate-seldom-unfit
+    seldom-unfit-requires
     array-share-prefix-data
     slice-aggregate-write
     write-requires

@@ -22,6 +22,11 @@ abbrev μ-loop : tie.MeasureT-loop
 room : (v : ℕ → ℕ) (w k : ℕ) → k * w ≤ 64 - w → joined v w k < 2 ^ (64 - w)
 room v w k h = lt-of-lt-of-le (joined-lt v w k) (pow-mono {i = k * w} {j = 64 - w} h)
 
+-- in a turn: sample k has no further bits
+fit-in : (c : tie.In-loop Inv-loop μ-loop)
+    → let a = c .before .before .before .args in sideBySide (now (a .dat)) (a .from) (a .size) (c .before .loop .k) < 2 ^ a .width
+fit-in c = c .before .before .before .pre .1 (c .before .loop .k) (c .loop-test .taken)
+
 loop-holds : tie.Need-loop-holds Inv-loop μ-loop
 loop-holds c = (omega arith, joined-none _ _, room-left _ _ _ _ (omega arith))
 
@@ -35,10 +40,15 @@ get-be-requires : tie.Need-get-be-requires Inv-loop μ-loop
 get-be-requires c κs = omega arith
 
 append-requires : tie.Need-append-requires Inv-loop μ-loop
+unfolding sideBySide
 append-requires c κs =
     let head = c .before .before in
     let a = head .before .before .args in
-    (omega arith, rw (head .loop .inv .1) (room (sideBySide (now (a .dat)) (a .from) (a .size)) (a .width) (head .loop .k) (omega arith)))
+    let v : ℕ → ℕ = sideBySide (now (a .dat)) (a .from) (a .size) in (
+      omega arith,
+      rw (head .loop .inv .1) (room v (a .width) (head .loop .k) (omega arith)),
+      rw (c .get-be .ensures) (fit-in (c .before)),
+    )
 
 add-k : tie.Need-add-k Inv-loop μ-loop
 add-k c = omega arith
@@ -50,7 +60,7 @@ loop-again : tie.Need-loop-again Inv-loop μ-loop
 unfolding sideBySide
 loop-again c =
     let head = c .before .before .before in
-    (omega arith, joined-turn _ _ _ (head .loop .inv .1) (c .before .get-be .ensures) (c .append .ensures), room-left _ _ _ _ (omega arith))
+    (omega arith, joined-turn _ _ _ (fit-in (c .before .before)) (head .loop .inv .1) (c .before .get-be .ensures) (c .append .ensures), room-left _ _ _ _ (omega arith))
 
 returns : tie.Need-returns Inv-loop μ-loop
 returns c = let e : c .before .loop .k ≡ c .before .before .before .args .group = omega arith in c .before .loop .inv .1 ∙ rw e

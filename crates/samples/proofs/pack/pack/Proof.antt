@@ -6,7 +6,9 @@ use Rattle.samples.proofs.pack.pack.Statement.{statement}
 use Rattle.samples.proofs.pack.pack.Tie as tie
 
 pack-side-by-side-requires : tie.Need-pack-side-by-side-requires
-pack-side-by-side-requires c κs = omega (arith, rw (c .before .if1 .taken) at (c .before .before .before .before .pre))
+pack-side-by-side-requires c κs =
+    let p = rw (c .before .if1 .taken) at (c .before .before .before .before .pre) in
+    (omega arith, (omega arith, p .1 .1))
 
 pack-each-requires : tie.Need-pack-each-requires
 pack-each-requires c κs = search needs

@@ -38,7 +38,11 @@ add-put-packed-2 : tie.Need-add-put-packed-2 Inv-loop μ-loop
 add-put-packed-2 c = omega arith
 
 put-packed-requires : tie.Need-put-packed-requires Inv-loop μ-loop
-put-packed-requires c κs = omega arith
+unfolding sideBySide
+put-packed-requires c κs =
+    let got = c .before in
+    let turn = got .before in
+    (omega arith, rw (got .get-be .ensures) (turn .before .before .before .before .pre .1 .1 (turn .before .loop .k) (turn .loop-test .taken)))
 
 add-k : tie.Need-add-k Inv-loop μ-loop
 add-k c = omega arith

@@ -24,10 +24,14 @@ returns : tie.Need-returns
 returns c = search needs
 
 pack-by-bytes-requires : tie.Need-pack-by-bytes-requires
-pack-by-bytes-requires c κs = omega (arith, rw (c .before .match .keys1) at (c .before .before .before .before .before .pre))
+pack-by-bytes-requires c κs =
+    let p = rw (c .before .match .keys1) at (c .before .before .before .before .before .pre) in
+    (omega arith, (omega arith, p .1 .1))
 
 pack-by-bytes-requires-2 : tie.Need-pack-by-bytes-requires-2
-pack-by-bytes-requires-2 c κs = omega (arith, rw (c .before .match .keys2) at (c .before .before .before .before .before .pre))
+pack-by-bytes-requires-2 c κs =
+    let p = rw (c .before .match .keys2) at (c .before .before .before .before .before .pre) in
+    (omega arith, (omega arith, p .1 .1))
 
 pack-by-bits-requires-2 : tie.Need-pack-by-bits-requires-2
 pack-by-bits-requires-2 c κs = search needs

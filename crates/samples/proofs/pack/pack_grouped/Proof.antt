@@ -1,10 +1,10 @@
 -- `samples::pack::pack_grouped` meets its contract: whole groups from a whole byte on, then the rest.
 -- Assumes nothing.
-use mathlib.Core.Path.{_≡_}
+use mathlib.Core.Path.{_≡_, refl}
 use Prim.Native.Nat.{_*_, _/_, _≤_}
 use native.Mathlib.Omega.{arith}
 use denote.Ref.{now}
-use Rattle.samples.proofs.Groups.{Groups, groups, put-rest}
+use Rattle.samples.proofs.Groups.{Groups, groups, put-rest, fit-part}
 use borrow.Author.Needs.{needs}
 use borrow.Author.Tests.{leb-true}
 use Rattle.samples.proofs.pack.pack_grouped.Statement.{statement}
@@ -37,7 +37,10 @@ pack-groups-requires c κs =
     let there = c .before in
     let start = there .before .before .before .before .before in
     let few : there .before .before .group-of .result * start .args .width / 8 ≤ 8 = leb-true _ _ (there .if2 .taken) in
-    omega (arith, start .pre, there .before .before .group-of .ensures, groups-in there)
+    let p = start .pre in
+    let e = there .before .before .group-of .ensures in
+    let g = groups-in there in
+    (omega arith, (omega arith, λ k h. p .1 .1 k (omega arith)))
 
 mul-pack-each : tie.Need-mul-pack-each
 mul-pack-each c = omega (arith, groups-in (c .before .before .before .before))
@@ -58,10 +61,14 @@ pack-each-requires : tie.Need-pack-each-requires
 pack-each-requires c κs =
     let first = c .before .before .before in
     let there = first .before .before in
-    omega (arith, there .before .before .before .before .before .pre, groups-in there, first .pack-groups .kept)
+    let s = there .before .before .before .before .before in
+    let p = s .pre in
+    let g = groups-in there in
+    let e = first .pack-groups .kept in
+    (omega arith, (omega arith, fit-part _ (s .args .from) (s .args .size) _ (s .args .count) _ _ (p .1 .1) (omega arith) refl))
 
 pack-each-requires-2 : tie.Need-pack-each-requires-2
-pack-each-requires-2 c κs = search needs
+pack-each-requires-2 c κs = (omega arith, (omega arith, c .before .before .before .before .before .pre .1 .1))
 
 same-length : tie.Need-same-length
 same-length c = search needs

@@ -5,9 +5,10 @@ use Prim.Native.Nat.{_*_, _-_}
 use native.Mathlib.Nat.{mul-le-mul-left}
 use native.Mathlib.Omega.{arith}
 use lib.ListN.{length}
+use Rattle.bits.proofs.Bits.{within}
 use Rattle.samples.specs.Internal.Samples.{samplesWritten}
 use Rattle.samples.proofs.Moves.{So-far, none-yet, one-more}
-use Rattle.samples.proofs.Groups.{groups-none, group-turn}
+use Rattle.samples.proofs.Groups.{groups-none, group-turn, fit-part}
 use Rattle.samples.proofs.pack.pack_groups_any.Statement.{statement}
 use Rattle.samples.proofs.pack.pack_groups_any.Tie as tie
 
@@ -31,7 +32,11 @@ add-join : tie.Need-add-join Inv-loop μ-loop
 add-join c = omega arith
 
 join-requires : tie.Need-join-requires Inv-loop μ-loop
-join-requires c κs = omega arith
+join-requires c κs =
+    let k = c .before .loop .k in
+    let s = c .before .before .before .before in
+    let a = s .args in
+    (omega arith, fit-part _ (a .from) (a .size) _ _ (k * a .group) _ (s .pre .1 .1) (within k (a .n) (a .group) (c .loop-test .taken)) (omega arith))
 
 mul-put-be : tie.Need-mul-put-be Inv-loop μ-loop
 mul-put-be c = omega arith

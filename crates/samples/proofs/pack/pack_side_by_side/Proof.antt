@@ -1,8 +1,9 @@
 -- `samples::pack::pack_side_by_side` meets its contract: the samples up to a whole byte, then the rest.
 -- Assumes nothing.
+use mathlib.Core.Path.{refl}
 use native.Mathlib.Omega.{arith}
 use denote.Ref.{now}
-use Rattle.samples.proofs.Groups.{Parts, parts, put-rest}
+use Rattle.samples.proofs.Groups.{Parts, parts, put-rest, fit-part}
 use borrow.Author.Needs.{needs}
 use Rattle.samples.proofs.pack.pack_side_by_side.Statement.{statement}
 use Rattle.samples.proofs.pack.pack_side_by_side.Tie as tie
@@ -15,7 +16,9 @@ before-byte-requires : tie.Need-before-byte-requires
 before-byte-requires c κs = search needs
 
 pack-each-requires : tie.Need-pack-each-requires
-pack-each-requires c κs = omega (arith, parts-in (c .before))
+pack-each-requires c κs =
+    let q = parts-in (c .before) in
+    (omega arith, (omega arith, λ k h. c .before .before .before .before .pre .1 .1 k (omega arith)))
 
 mul-pack-grouped : tie.Need-mul-pack-grouped
 mul-pack-grouped c = omega (arith, parts-in (c .before .before .before .before))
@@ -36,7 +39,10 @@ pack-grouped-requires : tie.Need-pack-grouped-requires
 pack-grouped-requires c κs =
     let first = c .before .before .before in
     let start = first .before .before .before .before .before in
-    omega (arith, start .pre, parts-in (first .before .before), first .pack-each .kept)
+    let p = start .pre in
+    let q = parts-in (first .before .before) in
+    let l = first .pack-each .kept in
+    (omega arith, (omega arith, fit-part _ (start .args .from) (start .args .size) _ (start .args .count) _ _ (p .1 .1) (omega arith) refl))
 
 same-length : tie.Need-same-length
 same-length c = search needs

@@ -1,6 +1,7 @@
 -- `samples::pack::put_packed` meets its contract: a field of the number in n bytes.
 -- Assumes nothing.
 use Prim.Native.Nat.{_*_, _%_, _-_}
+use native.Mathlib.Nat.{mod-eq-of-lt}
 use native.Mathlib.Omega.{arith}
 use denote.Ref.{now}
 use Rattle.bits.proofs.Joined.{putBits-within}
@@ -37,7 +38,7 @@ returns c =
     let known = got .before .before in
     let a = known .before .args in
     putBits-within (now (a .img)) (a .at) (a .width) (8 * a .n - a .at % 8 - a .width) (a .n) (a .v) (λ i. known .slice-known .given i .fits)
-    (omega (arith, known .before .pre)) (omega (arith, known .before .pre)) (got .get-be .ensures) (changed .exchange .ensures) (put .put-be .ensures)
+    (omega (arith, known .before .pre)) (omega (arith, known .before .pre)) (got .get-be .ensures) (rw (mod-eq-of-lt (known .before .pre .1)) (changed .exchange .ensures)) (put .put-be .ensures)
 
 pub put-packed-spec : {M : Type 1} → statement M
 put-packed-spec =

@@ -17,7 +17,7 @@ scatter-requires : tie.Need-scatter-requires
 scatter-requires c κs = omega (arith, whole-in (c .before))
 
 pack-requires : tie.Need-pack-requires
-pack-requires c κs = search needs
+pack-requires c κs = (omega arith, (omega arith, c .before .before .before .before .pre .1 .1 .1 (omega arith)))
 
 same-length : tie.Need-same-length
 same-length c = search needs

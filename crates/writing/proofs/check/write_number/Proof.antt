@@ -3,13 +3,19 @@
 use borrow.Author.Needs.{needs}
 use mathlib.Core.Path.{_≡_, sym, _∙_}
 use mathlib.Core.Bool.{true}
+use Prim.Native.Nat.{ℕ, _+_, _*_, _≤_, _<_}
 use borrow.Author.Tests.{eq-eqb, ne-eqb}
+use native.Mathlib.Omega.{arith}
+use denote.Ref.{now}
+use lib.ListN.{length}
+use Rattle.common.proofs.Flags.{no, yes}
 use Rattle.common.specs.Questions.{ask}
+use Rattle.common.specs.Rounding.{ceilDiv}
 use Rattle.common.specs.Tests.{every}
 use Rattle.grid.specs.Sizes.{actualRows, actualColumns}
 use Rattle.grid.specs.Layout.{Block}
 use Rattle.grid.proofs.Accepted.{facts}
-use Rattle.calls.specs.Orders.{q13, q14, skipNumber, writeNumber}
+use Rattle.calls.specs.Orders.{q13, q14, q26, skipNumber, writeNumber}
 use Rattle.calls.proofs.Numbers.{Enough, skip-facts, block-before}
 use Rattle.grid.specs.Internal.BlockLayouts.{layoutOf}
 use Rattle.grid.proofs.BlockLayouts.{sound}
@@ -22,25 +28,27 @@ abbrev past-6 : tie.Else3 → tie.Else1
 past-6 c = c .before .before .before .before
 
 abbrev start : tie.Else3 → tie.Start
-start c = past-6 c .before .before
+start c = past-6 c .before .before .before
 
 -- past question 6
 enough : (c : tie.Else1)
-    → let a = c .before .before .args in Enough (a .grid) (a .image) (a .words) × Block (a .grid) (a .block-row) (a .block-col)
+    → let a = c .before .before .before .args in Enough (a .grid) (a .image) (a .words) × Block (a .grid) (a .block-row) (a .block-col)
 enough c = skip-facts _ _ _ _ _ (sym (c .before .block-number .ensures) ∙ c .if1 .left)
 
 asked : (c : tie.Else1)
-    → let a = c .before .before .args in
-    writeNumber (a .grid) (a .image) (a .words) (a .block-row) (a .block-col) (a .bands) (a .rows) (a .columns) (a .«data»)
-    ≡ ask 13 (q13 (a .grid) (a .block-row) (a .block-col) (a .bands) (a .rows) (a .columns)) (ask 14 (q14 (a .grid) (a .block-row) (a .block-col) (a .«data»)) 0)
+    → let a = c .before .before .before .args in
+    let n = length (now (a .«data»)) in
+    let fit = q26 (a .grid) (now (a .«data»)) in
+    writeNumber (a .grid) (a .image) (a .words) (a .block-row) (a .block-col) (a .bands) (a .rows) (a .columns) n fit
+    ≡ ask 13 (q13 (a .grid) (a .block-row) (a .block-col) (a .bands) (a .rows) (a .columns)) (ask 14 (q14 (a .grid) (a .block-row) (a .block-col) n) (ask 26 fit 0))
 unfolding skipNumber writeNumber
 asked c = block-before _ _ _ _ _ .accepts (c .before .block-number .ensures) (c .if1 .left) _
 
 -- past question 13
-rows-in : (c : tie.Else3) → let d = c .before .before .before .before in let a = d .before .before .args in a .rows ≡ actualRows (a .grid) (a .block-row)
+rows-in : (c : tie.Else3) → let d = c .before .before .before .before in let a = d .before .before .before .args in a .rows ≡ actualRows (a .grid) (a .block-row)
 rows-in c = c .if3 .left ∙ c .before .actual-rows .ensures
 
-columns-in : (c : tie.Else4) → let d = c .before .before .before .before in let a = d .before .before .before .before .args in a .columns ≡ actualColumns (a .grid) (a .block-col)
+columns-in : (c : tie.Else4) → let d = c .before .before .before .before in let a = d .before .before .before .before .before .args in a .columns ≡ actualColumns (a .grid) (a .block-col)
 columns-in c = c .if4 .left ∙ c .before .actual-columns .ensures
 
 shaped : (c : tie.Else4)
@@ -88,14 +96,18 @@ returns-4 c =
       ne-eqb _ _ (rw (c .before .actual-columns .ensures) at (c .if4 .taken)),
     )
 
-mul-if5 : tie.Need-mul-if5
-mul-if5 c = rw (c .before .before .before .before .if2 .left, rows-in (c .before .before)) (record { fits = fits c .bands-rows })
-
-mul-if5-2 : tie.Need-mul-if5-2
-mul-if5-2 c = rw (c .before .before .before .before .if2 .left, rows-in (c .before .before), columns-in c) (record { fits = fits c .samples })
-
 sample-bytes-requires : tie.Need-sample-bytes-requires
 sample-bytes-requires c κs = enough (past-6 (c .before .before)) .0 .accepted
+
+mul-if5 : tie.Need-mul-if5
+mul-if5 c =
+    let k = c .before in
+    rw (k .before .before .before .before .if2 .left, rows-in (k .before .before)) (record { fits = fits k .bands-rows })
+
+mul-if5-2 : tie.Need-mul-if5-2
+mul-if5-2 c =
+    let k = c .before in
+    rw (k .before .before .before .before .if2 .left, rows-in (k .before .before), columns-in k) (record { fits = fits k .samples })
 
 mul-if5-3 : tie.Need-mul-if5-3
 mul-if5-3 c =
@@ -108,11 +120,45 @@ returns-5 c =
     let k = c .before .before in
     rw (asked (past-6 (k .before .before)), shaped k, ne-eqb _ _ (rw (k .before .before .before .before .if2 .left, rows-in (k .before .before), columns-in k, c .before .sample-bytes .ensures) at (c .if5 .taken)))
 
-returns-6 : tie.Need-returns-6
+-- past question 14
+sized : (c : tie.Else5)
+    → let k = c .before .before in
+    let a = start (k .before .before) .args in q14 (a .grid) (a .block-row) (a .block-col) (length (now (a .«data»))) ≡ true
 unfolding q14
-returns-6 c =
+sized c =
     let k = c .before .before in
-    rw (asked (past-6 (k .before .before)), shaped k, eq-eqb _ _ (rw (k .before .before .before .before .if2 .left, rows-in (k .before .before), columns-in k, c .before .sample-bytes .ensures) at (c .if5 .left)))
+    eq-eqb _ _ (rw (k .before .before .before .before .if2 .left, rows-in (k .before .before), columns-in k, c .before .sample-bytes .ensures) at (c .if5 .left))
+
+-- the bytes of a sample of n bits
+size-of : (n : ℕ) → 0 < n → n ≤ 64 → (0 < ceilDiv n 8) × (ceilDiv n 8 ≤ 8) × (8 * ceilDiv n 8 < n + 8) × (n ≤ 8 * ceilDiv n 8)
+size-of n h l = omega arith
+
+cast-all-fit : tie.Need-cast-all-fit
+cast-all-fit c = search needs
+
+all-fit-requires : tie.Need-all-fit-requires
+all-fit-requires c κs =
+    let k = c .before .before .before in
+    let f = facts _ (enough (past-6 (k .before .before)) .0 .accepted) in
+    rw (c .before .before .sample-bytes .ensures) (size-of _ (f .sides .nbpp-pos) (f .sides .nbpp-le))
+
+-- what the test of the samples says
+fit-is : (c : tie.After-all-fit)
+    → let k = c .before .before .before .before in let a = start (k .before .before) .args in c .all-fit .result ≡ q26 (a .grid) (now (a .«data»))
+unfolding q26
+fit-is c = rw (c .before .before .before .sample-bytes .ensures) at (c .all-fit .ensures)
+
+returns-6 : tie.Need-returns-6
+returns-6 c =
+    let d = c .before .before .before in
+    let k = d .before .before in
+    rw (asked (past-6 (k .before .before)), shaped k, sized d, no (fit-is (c .before)) (c .if6 .taken))
+
+returns-7 : tie.Need-returns-7
+returns-7 c =
+    let d = c .before .before .before in
+    let k = d .before .before in
+    rw (asked (past-6 (k .before .before)), shaped k, sized d, yes (fit-is (c .before)) (c .if6 .left))
 
 pub write-number-spec : {M : Type 1} → statement M
 write-number-spec =
@@ -126,9 +172,12 @@ write-number-spec =
     returns-3
     actual-columns-requires
     returns-4
+    sample-bytes-requires
     mul-if5
     mul-if5-2
-    sample-bytes-requires
     mul-if5-3
     returns-5
-    returns-6)
+    cast-all-fit
+    all-fit-requires
+    returns-6
+    returns-7)

@@ -7,9 +7,10 @@ use crate::files;
 use crate::output::Output;
 use crate::parts;
 use crate::picture::{self, Picture};
+use crate::preview::number;
 use crate::progress::Progress;
 use crate::words::count;
-use gezdunar::{Frame, Refusal};
+use gezdunar::{Frame, Refusal, Shape};
 use std::collections::BTreeSet;
 use std::fs::File;
 use std::io::{Read, Seek, SeekFrom};
@@ -31,7 +32,7 @@ usage: gezdunar pack --input FILE --output FILE GRID
 
   --input FILE        the picture's samples: band by band, row by row,
                       big-endian, each in as many whole bytes as its bits need;
-                      bits above a sample's own are dropped
+                      the bits above a sample's own are zero
   --output FILE       the image; a file of that name is replaced; - is standard
                       output
   --skip R,C          leaves the block at block row R, block column C unwritten,
@@ -44,8 +45,10 @@ usage: gezdunar pack --input FILE --output FILE GRID
 const TAIL: &str = "\
 The image is finished only if each block was written or skipped. Where the input
 ends early, the blocks that it does not hold are a hole: refused with 15 and the
-first such block, and no file is written. A longer input is refused with 14. The
-image and one row of blocks are held in memory.
+first such block, and no file is written. A longer input is refused with 14. No
+bits are dropped: a sample with a bit above its own is refused with 26, and the
+first such sample of its block is named with its place and its number. The image
+and one row of blocks are held in memory.
 
 example:
   gezdunar pack --input picture.raw --output picture.P \\
@@ -102,15 +105,40 @@ fn write_blocks(
                 return Ok(());
             }
             let data = source.block(picture, row, column)?;
-            let asked = format!("block row {row}, block column {column}");
             let written = frame.encode_block(row, column, grid.block_shape(row, column), data);
-            written.map_err(|refusal| picture.refused(refusal, &asked))?;
+            written.map_err(|refusal| not_written(picture, (row, column), data, refusal))?;
         }
         if progress.pass() {
             progress.tell(frame.progress().map_err(|refusal| picture.refused(refusal, "progress"))?);
         }
     }
     Ok(())
+}
+
+/// The failure of a block that was refused; with 26 its first sample that does not fit is told.
+fn not_written(picture: &Picture, (row, column): (u32, u32), data: &[u8], refusal: Refusal) -> Failure {
+    let mut facts = format!("block row {row}, block column {column}");
+    if refusal == Refusal::SampleBits {
+        if let Some(sample) = too_large(picture, (row, column), data) {
+            facts = format!("{facts}: {sample}");
+        }
+    }
+    picture.refused(refusal, &facts)
+}
+
+/// A block's first sample with a bit above NBPP: its place in the picture, its number, and the largest that fits.
+fn too_large(picture: &Picture, (row, column): (u32, u32), data: &[u8]) -> Option<String> {
+    let grid = &picture.grid;
+    let largest = u64::MAX >> (64 - grid.nbpp);
+    let mut samples = data.chunks_exact(picture.sizes.sample_bytes).map(number).enumerate();
+    let (place, sample) = samples.find(|&(_, sample)| sample > largest)?;
+    let Shape { rows, columns, .. } = grid.block_shape(row, column);
+    let band = place / (rows * columns);
+    let row = row as usize * grid.nppbv as usize + place / columns % rows;
+    let column = column as usize * grid.nppbh as usize + place % columns;
+    let bits = count(grid.nbpp as usize, "bit");
+    let place = format!("band {band}, row {row}, column {column} of the picture");
+    Some(format!("{place} has the sample {sample} (0x{sample:X}); the largest of {bits} is {largest}"))
 }
 
 /// The input, of which one row of blocks is in memory.

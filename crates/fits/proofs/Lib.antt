@@ -1,0 +1,2 @@
+-- The laws of `fits`.
+pub mod FirstBytes

@@ -1,0 +1,2 @@
+-- Definitions that no call cites.
+pub mod Rows

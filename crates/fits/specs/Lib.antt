@@ -1,0 +1,2 @@
+-- What the contracts of `fits` cite.
+pub mod Internal
