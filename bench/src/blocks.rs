@@ -97,8 +97,16 @@ pub fn encoded_bytes(grid: &Grid, block: Block) -> usize {
     (bands * rows * columns * grid.nbpp as usize).div_ceil(8)
 }
 
+/// Random samples of a block, without a bit above NBPP.
+fn samples(grid: &Grid, block: Block) -> OwnedBuffer {
+    let mut samples = source(decoded_bytes(grid, block, None)).as_bytes().to_vec();
+    let (size, above) = (sizes(grid).sample_bytes, grid.nbpp.next_multiple_of(8) - grid.nbpp);
+    samples.iter_mut().step_by(size).for_each(|first| *first &= 0xff >> above);
+    source_of(&samples)
+}
+
 pub fn encode(grid: &Grid, block: Block, memcpy: Memcpy) -> Times {
-    let data = source(decoded_bytes(grid, block, None));
+    let data = samples(grid, block);
     let host_data = source_of(&rust::host_order(sizes(grid).sample_bytes, data.as_bytes()));
     let mut frame = Frame::start(grid);
     let shape = shape(grid, block, None);

@@ -1,12 +1,19 @@
-//! Document 01's figures as cases with the answers that it gives.
+//! Document 01's figures as cases with the answers that it gives, and that document 02 gives to figure k's last sample.
 
 use crate::{Answer, Call, Case, Grid, Header, Mode};
 
-/// A figure's letter, its case and document 01's answer.
+/// A figure's letter, its case and the documents' answer.
 pub struct Figure {
     pub letter: char,
     pub case: Case,
     pub answer: Answer,
+}
+
+impl Figure {
+    /// Is it on the compared domain? An empty list of bands is not, nor a sample with a bit above NBPP.
+    pub fn is_compared(&self) -> bool {
+        self.letter != 'j' && !self.answer.values.contains(&26)
+    }
 }
 
 /// Picture 3 x 5, blocks 2 x 4, 2 bands, NBPP 8.
@@ -32,6 +39,13 @@ fn write(grid: Grid, block: (u32, u32), [rows, columns]: [u32; 2], data: &[u8], 
     (Case::Frame { grid, calls: vec![call] }, Answer { number: 0, values: vec![0; 3], bytes })
 }
 
+/// A write of one sample with a bit above NBPP, after which image and marks are as a start leaves them.
+fn refused_write(grid: Grid, data: &[u8]) -> (Case, Answer) {
+    let (case, accepted) = write(grid, (0, 0), [1, 1], data, &vec![0; data.len()]);
+    let bytes = vec![0; accepted.bytes.len()];
+    (case, Answer { number: 0, values: vec![26, 0, 0], bytes })
+}
+
 pub fn figures() -> Vec<Figure> {
     let mut list = Vec::new();
     let mut add = |letter, (case, answer)| list.push(Figure { letter, case, answer });
@@ -51,8 +65,7 @@ pub fn figures() -> Vec<Figure> {
     let packed = [0x12, 0x34, 0x56, 0x78, 0x90];
     let row = [0x01, 0x23, 0x04, 0x56, 0x07, 0x89];
     add('k', write(twelve, (0, 0), [1, 3], &row, &packed));
-    let high_bits = [0xf1, 0x23, 0x04, 0x56, 0x07, 0x89];
-    add('k', write(twelve, (0, 0), [1, 3], &high_bits, &packed));
+    add('k', refused_write(Grid::new([1, 1], 1, 12, Mode::B, [1, 1]), &[0xf1, 0x23]));
     let one = Grid::new([1, 10], 1, 1, Mode::B, [1, 10]);
     add('l', write(one, (0, 0), [1, 10], &[1, 0, 1, 1, 0, 0, 0, 1, 1, 1], &[0xb1, 0xc0]));
     let four = Grid::new([2, 3], 1, 4, Mode::B, [2, 2]);

@@ -122,6 +122,17 @@ fn bytes(from: &mut Source, size: &Size, count: u64) -> Vec<u8> {
     (0..count).map(|_| if size.every_byte { from.below(256) as u8 } else { from.byte() }).collect()
 }
 
+/// Bytes of samples that have no bit above NBPP.
+fn fitting(grid: &Grid, from: &mut Source, size: &Size, count: u64) -> Vec<u8> {
+    if size.every_byte {
+        let values = |i| if i % layout::sample_bytes(grid) == 0 { grid.first_byte_values() } else { 256 };
+        return (0..count).map(|i| from.below(values(i)) as u8).collect();
+    }
+    let mut data = bytes(from, size, count);
+    grid.clear_higher_bits(&mut data);
+    data
+}
+
 /// A number below `bound`; on a long side the first, the last, or one that an enumeration does not enumerate.
 fn place(from: &mut Source, size: &Size, bound: u32) -> u32 {
     if size.long == 0 || u64::from(bound) <= size.picture {

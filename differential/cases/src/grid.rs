@@ -47,6 +47,18 @@ impl Grid {
         Grid { nrows, ncols, bands, nbpp, mode, nppbh, nppbv, nbpr, nbpc }
     }
 
+    /// How many values the first byte of a sample may have in lent data: in it stand the bits above NBPP, which are
+    /// zero.
+    pub fn first_byte_values(&self) -> u64 {
+        1 << ((self.nbpp - 1) % 8 + 1)
+    }
+
+    /// Clears the bits above NBPP in lent data.
+    pub fn clear_higher_bits(&self, data: &mut [u8]) {
+        let (size, values) = (self.nbpp.div_ceil(8) as usize, self.first_byte_values());
+        data.iter_mut().step_by(size).for_each(|byte| *byte = (u64::from(*byte) % values) as u8);
+    }
+
     pub fn blocks(&self) -> u64 {
         u64::from(self.nbpr) * u64::from(self.nbpc)
     }

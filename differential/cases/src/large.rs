@@ -26,7 +26,8 @@ fn write(from: &mut Source, grid: Grid, block: (u32, u32)) -> Case {
     for (row, column) in grid.every_block() {
         if (row, column) == block {
             let (rows, columns) = (layout::actual_rows(&grid, row), layout::actual_columns(&grid, column));
-            let data = bytes(from, u64::from(grid.bands) * rows * columns * layout::sample_bytes(&grid));
+            let mut data = bytes(from, u64::from(grid.bands) * rows * columns * layout::sample_bytes(&grid));
+            grid.clear_higher_bits(&mut data);
             calls.push(Call::Write { row, column, shape: [grid.bands, rows as u32, columns as u32], data });
         } else {
             calls.push(Call::Skip { row, column });

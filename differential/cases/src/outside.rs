@@ -4,7 +4,7 @@
 mod sides;
 mod subheaders;
 
-use crate::{Area, Call, Case, Grid, Header, Lent, Mode, Pack};
+use crate::{Area, Call, Case, Grid, Header, Lent, Mode, Pack, WIDTHS};
 
 type Cases = Box<dyn Iterator<Item = Case>>;
 
@@ -18,6 +18,8 @@ pub fn outside() -> Vec<(&'static str, Cases)> {
         ("every call at the limits of an image and a table", Box::new(sizes())),
         ("every window, also outside the picture", Box::new(windows())),
         ("every length of a frame's buffers", Box::new(frames())),
+        ("every byte written at up to 8 bits", Box::new(bytes_written())),
+        ("every bit above NBPP of every sample of a block", Box::new(higher_bits())),
         ("every header of a table of one block", Box::new(tables())),
         ("every table of one block written", Box::new(written())),
         ("every block and band looked up", Box::new(lookups())),
@@ -165,6 +167,35 @@ fn frames() -> impl Iterator<Item = Case> {
                 let lent = Lent { image, marks, ..Lent::default() };
                 Case::Lent { case: Box::new(Case::Frame { grid, calls }), lent }
             })
+        })
+    })
+}
+
+/// A frame of which block (1, 1) is written once with data that fits and then with other data.
+fn written_again(grid: Grid, fits: Vec<u8>, data: Vec<u8>) -> Case {
+    let shape = [grid.bands, grid.nrows - grid.nppbv, grid.ncols - grid.nppbh];
+    let write = |data| Call::Write { row: 1, column: 1, shape, data };
+    Case::Frame { grid, calls: vec![write(fits), write(data), Call::Progress, Call::Finish] }
+}
+
+fn bytes_written() -> impl Iterator<Item = Case> {
+    pairs(pairs(1..=8, Mode::ALL.into_iter()), 0..=255).map(|((nbpp, mode), byte)| {
+        let grid = Grid::new([2, 2], 1, nbpp, mode, [1, 1]);
+        written_again(grid, vec![1], vec![byte])
+    })
+}
+
+/// Each bit above NBPP alone, in each sample of an edge block; at a byte multiple the highest bit.
+fn higher_bits() -> impl Iterator<Item = Case> {
+    pairs(WIDTHS.into_iter(), Mode::ALL.into_iter()).flat_map(|(nbpp, mode)| {
+        let grid = Grid::new([4, 5], 2, nbpp, mode, [3, 3]);
+        let size = nbpp.div_ceil(8) as usize;
+        let bits = nbpp.min(8 * size as u32 - 1)..8 * size as u32;
+        pairs(0..4, bits).map(move |(sample, bit)| {
+            let fits: Vec<u8> = (0..4 * size).map(|i| u8::from(i % size == size - 1)).collect();
+            let mut data = fits.clone();
+            data[sample * size] |= 1 << (bit % 8);
+            written_again(grid, fits, data)
         })
     })
 }

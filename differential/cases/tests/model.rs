@@ -1,7 +1,9 @@
 //! The model against document 01's figures, and at the limits that the figures leave out.
 
 use cases::model::{answer, frame, layout, mask, questions, read, reorder};
-use cases::{figures, outside, Area, Case, Grid, Header, Lent, Mode, Pack, WIDTHS};
+use cases::{
+    figures, generate, outside, random_size, Area, Case, Grid, Header, Kind, Lent, Mode, Pack, Size, Source, WIDTHS,
+};
 
 #[test]
 fn figures_hold() {
@@ -103,6 +105,44 @@ fn lent_buffers() {
     assert_eq!(read::whole(&sequential, &[], (2, 1)), (6, &[][..]));
 }
 
+/// Question 26 is the last, is asked of every bit from NBPP on, and a write that it refuses changes nothing.
+#[test]
+fn samples_that_do_not_fit() {
+    for nbpp in WIDTHS {
+        let grid = Grid::new([1, 2], 1, nbpp, Mode::B, [1, 2]);
+        let size = layout::sample_bytes(&grid) as usize;
+        for bit in 0..16 * size {
+            let (mut image, mut marks) = (vec![0xa5; layout::image_bytes(&grid) as usize], [0xa4]);
+            let before = (image.clone(), marks);
+            let mut data = vec![0; 2 * size];
+            data[bit / 8] = 0x80 >> (bit % 8);
+            let mut write = |shape, data: &[u8]| frame::write(&grid, &mut image, &mut marks, (0, 0), shape, data);
+            assert_eq!(write([1, 1, 1], &data), 13);
+            assert_eq!(write([1, 1, 2], &data[1..]), 14);
+            let fits = 8 * size - 1 - bit % (8 * size) < nbpp as usize;
+            assert_eq!(write([1, 1, 2], &data), if fits { 0 } else { 26 }, "NBPP {nbpp}, bit {bit}");
+            assert_eq!((image, marks) == before, !fits);
+        }
+    }
+}
+
+/// Drawn frames on the compared domain have no sample that does not fit; those outside it have some.
+#[test]
+fn drawn_samples() {
+    let refused = |size: Size| {
+        let mut from = Source::random(1);
+        let mut count = 0;
+        for _ in 0..2_000 {
+            let case = generate(Kind::Frame, &mut from, &size).expect("a case");
+            count += answer(&case).values.chunks(3).filter(|call| call[0] == 26).count();
+            from.advance();
+        }
+        count
+    };
+    assert_eq!(refused(random_size()), 0);
+    assert!(refused(Size { outside: true, ..random_size() }) > 100);
+}
+
 #[test]
 fn mask_questions() {
     let grid = Grid::new([1, 1], 1, 8, Mode::B, [1, 1]);
@@ -166,7 +206,7 @@ fn lent_lengths() {
     assert_eq!(Lent::of(&refused).output, 0);
 }
 
-/// Every number is reached, but for 5 and 13, which the original gives too.
+/// Every number is reached, but for 5 and 13, which the original gives too, and 25, which no call gives.
 #[test]
 fn outside_reaches() {
     let mut numbers = [false; 256];
@@ -179,9 +219,9 @@ fn outside_reaches() {
             }
         }
     }
-    let missing: Vec<usize> = (0..=24).filter(|&number| !numbers[number]).collect();
-    assert_eq!(missing, [5, 13]);
-    assert!(numbers[25..].iter().all(|&reached| !reached));
+    let missing: Vec<usize> = (0..=26).filter(|&number| !numbers[number]).collect();
+    assert_eq!(missing, [5, 13, 25]);
+    assert!(numbers[27..].iter().all(|&reached| !reached));
 }
 
 /// An answer to questions 1 to 4 that is wrong on some grids.

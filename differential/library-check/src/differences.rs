@@ -16,6 +16,7 @@ pub fn print() {
     named_values();
     whole_block();
     frames();
+    higher_bits();
     tables_read();
     tables_written();
     offset_lists();
@@ -29,9 +30,10 @@ fn show<T: Debug>(what: &str, original: Result<T, Refusal>, case: &Case) {
         Err(refusal) => format!("refused: {refusal}"),
     };
     let Answer { number, values, bytes } = library::answer(case);
-    let library = match number {
-        0 => format!("{bytes:?}, {values:?}"),
-        number => format!("refused with {number}"),
+    let library = match (number, case) {
+        (0, Case::Frame { .. }) if values[0] != 0 => format!("{bytes:?}, the call refused with {}", values[0]),
+        (0, _) => format!("{bytes:?}, {values:?}"),
+        (number, _) => format!("refused with {number}"),
     };
     println!("{what}\n  original: {original}\n  library: {library}");
 }
@@ -136,6 +138,20 @@ fn frames() {
         let original = original::Encoder::new(&grid).and_then(original::Encoder::finalize);
         let what = format!("a start and a finish on {what}");
         show(&what, original, &Case::Lent { case: frame(grid), lent });
+    }
+}
+
+/// Beside a refused call stand the image and the marks, which are as the start left them.
+fn higher_bits() {
+    for (nbpp, data) in [(1, vec![2]), (7, vec![0x80]), (12, vec![0xf1, 0x23]), (31, vec![0x80, 0, 0, 1])] {
+        let grid = Grid { nbpp, ..plain() };
+        let original = original::Encoder::new(&grid).and_then(|mut encoder| {
+            encoder.encode_block(0, 0, &data, [1, 1, 1])?;
+            encoder.finalize()
+        });
+        let what = format!("a write at NBPP {nbpp} of the sample {data:x?}");
+        let calls = vec![Call::Write { row: 0, column: 0, shape: [1, 1, 1], data }];
+        show(&what, original, &Case::Frame { grid, calls });
     }
 }
 

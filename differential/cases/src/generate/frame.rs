@@ -1,6 +1,6 @@
 //! Frames: a start and the calls after it.
 
-use super::{block, bytes, inside, refusal, Size};
+use super::{block, fitting, inside, refusal, Size};
 use crate::model::layout;
 use crate::{Call, Case, Grid, Source};
 
@@ -59,5 +59,25 @@ fn write(grid: &Grid, (row, column): (u32, u32), from: &mut Source, size: &Size)
     }
     let exact: u64 = shape.iter().map(|&n| u64::from(n)).product::<u64>() * layout::sample_bytes(grid);
     let length = if refusal(from, size, 24) { (exact + from.below(4)).saturating_sub(2) } else { exact };
-    Call::Write { row, column, shape, data: bytes(from, size, length) }
+    let mut data = fitting(grid, from, size, length);
+    if size.outside && refusal(from, size, 8) {
+        higher_bit(grid, from, &mut data);
+    }
+    Call::Write { row, column, shape, data }
+}
+
+/// Sets a bit above NBPP, where there is one: in the first sample, the last or any, the lowest such bit or any.
+fn higher_bit(grid: &Grid, from: &mut Source, data: &mut [u8]) {
+    let size = layout::sample_bytes(grid);
+    let (samples, bits) = (data.len() as u64 / size, size * 8 - u64::from(grid.nbpp));
+    if samples == 0 || bits == 0 {
+        return;
+    }
+    let sample = match from.below(3) {
+        0 => 0,
+        1 => samples - 1,
+        _ => from.below(samples),
+    };
+    let bit = if from.below(2) == 0 { 0 } else { from.below(bits) };
+    data[(sample * size) as usize] |= 1 << (u64::from(grid.nbpp) % 8 + bit);
 }

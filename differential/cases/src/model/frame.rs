@@ -35,10 +35,16 @@ pub fn start(g: &Grid, image: &mut [u8], marks: &mut [u64]) -> u8 {
     number
 }
 
-pub fn write(
+/// Question 26: has no sample a bit above NBPP?
+fn samples_fit(g: &Grid, data: &[u8]) -> bool {
+    let (s, nbpp) = (layout::sample_bytes(g), u64::from(g.nbpp));
+    (0..data.len() as u64 / s).all(|i| bits::get(data, i * s * 8, s * 8 - nbpp) == 0)
+}
+
+/// The questions of a write.
+fn write_number(
     g: &Grid,
-    image: &mut [u8],
-    marks: &mut [u64],
+    (image, marks): (&[u8], &[u64]),
     (row, column): (u32, u32),
     shape: [u32; 3],
     data: &[u8],
@@ -50,14 +56,32 @@ pub fn write(
     if !questions::block_inside(g, row, column) {
         return 6;
     }
-    let (bands, s) = (u64::from(g.bands), layout::sample_bytes(g));
-    let (rows, columns) = (layout::actual_rows(g, row), layout::actual_columns(g, column));
-    if shape.map(u64::from) != [bands, rows, columns] {
+    let block = [u64::from(g.bands), layout::actual_rows(g, row), layout::actual_columns(g, column)];
+    if shape.map(u64::from) != block {
         return 13;
     }
-    if data.len() as u64 != bands * rows * columns * s {
+    if data.len() as u64 != block.into_iter().product::<u64>() * layout::sample_bytes(g) {
         return 14;
     }
+    if !samples_fit(g, data) {
+        return 26;
+    }
+    0
+}
+
+pub fn write(
+    g: &Grid,
+    image: &mut [u8],
+    marks: &mut [u64],
+    (row, column): (u32, u32),
+    shape: [u32; 3],
+    data: &[u8],
+) -> u8 {
+    let number = write_number(g, (image, marks), (row, column), shape, data);
+    if number != 0 {
+        return number;
+    }
+    let ([bands, rows, columns], s) = (shape.map(u64::from), layout::sample_bytes(g));
     if !layout::byte_multiple(g) {
         for i in 0..bands {
             let start = layout::run_start(g, row, column, i) as usize;
