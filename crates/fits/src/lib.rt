@@ -1,6 +1,6 @@
 // Whether samples have no bit above their width.
 ghost use mathlib.Core.Path.{_≡_};
-ghost use Prim.Native.Nat.{ℕ, _+_, _-_, _*_, _/_, _^_, max, _≤_, _<_};
+ghost use Prim.Native.Nat.{ℕ, _+_, _*_, _/_, _^_, max, _≤_, _<_};
 ghost use lib.Dec.{ltb};
 ghost use lib.ListN.{length, getD, replicate};
 ghost use Rattle.common.specs.Tests.{allBelow};
