@@ -1,6 +1,6 @@
 -- Laws of big-endian bytes: putting and reading bits at whole bytes is putting and reading bytes.
 -- Assumes nothing.
-use mathlib.Core.Path.{_≡_, refl, sym, ap, ap₂, _∙_}
+use mathlib.Core.Path.{_≡_, refl, sym, ap, ap₂, _∙_, subst}
 use mathlib.Core.List.{List, [], _∷_, _++_}
 use Prim.Native.Nat.{ℕ, zero, suc, _+_, _-_, _*_, _/_, _%_, _^_, _≤_, _<_}
 use native.Mathlib.Numerals.{add-one}
@@ -10,7 +10,7 @@ use lib.Seq.{getD-set-same, getD-set-other, set-out}
 use lib.ListN.{length, getD, set, length-append}
 use Rattle.bits.specs.Bits.{bitAt, bitsAt, withBit, withField, setBit, putBits, Bytes, beAt, beBytes}
 use Rattle.common.specs.Over.{over}
-use Rattle.bits.proofs.Bits.{withField-lt, putBits-add, putBits-byte, bitsAt-add, bitsAt-byte}
+use Rattle.bits.proofs.Bits.{withField-lt, putBits-add, putBits-byte, bitsAt-lt, bitsAt-add, bitsAt-byte}
 use Rattle.common.proofs.Over.{over-none, set-over, length-over, getD-over-after}
 
 pub length-beBytes : (s v : ℕ) → length (beBytes s v) ≡ s
@@ -62,6 +62,10 @@ bitsAt-bytes xs k (suc m) h =
     (bitsAt-byte xs (8 * k + 8 * m) 8 (omega arith)
     ∙ ap₂ (λ (a b : ℕ). getD xs a 0 / 2 ^ (8 - (b + 8)) % 256) q r
     ∙ (let l : getD xs (k + m) 0 < 256 = h (k + m) in omega arith))
+
+-- a number in m bytes
+pub beAt-lt : (xs : List ℕ) (k m : ℕ) → Bytes xs → beAt xs k m < 2 ^ (8 * m)
+beAt-lt xs k m h = subst (λ (x : ℕ). x < 2 ^ (8 * m)) (bitsAt-bytes xs k m h) (bitsAt-lt xs (8 * k) (8 * m))
 
 -- ---- bytes stay bytes where bits are put
 

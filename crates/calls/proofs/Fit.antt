@@ -1,15 +1,14 @@
 -- What question 26 tells of the data of a write.
 -- Assumes nothing.
 use Prim.Native.Nat.{ℕ, _*_, _/_, _%_, _^_, _<_}
-use mathlib.Core.Path.{_≡_, subst₂}
+use mathlib.Core.Path.{_≡_, subst}
 use mathlib.Core.Bool.{true}
 use mathlib.Core.List.{List}
 use native.Mathlib.Omega.{arith}
 use borrow.Author.Tests.{eqb-true, ltb-true, lt-ltb}
 use lib.ListN.{length}
 use Rattle.bits.specs.Bits.{beAt, Bytes}
-use Rattle.bits.proofs.Bits.{bitsAt-lt}
-use Rattle.bits.proofs.BigEndian.{bitsAt-bytes}
+use Rattle.bits.proofs.BigEndian.{beAt-lt}
 use Rattle.common.proofs.Tests.{below-at, all-below}
 use Rattle.grid.specs.declared.Grid.{Grid}
 use Rattle.grid.specs.Sizes.{sampleBytes, byteMultiple}
@@ -27,5 +26,4 @@ unfolding q26
 whole-fits g dat b e =
     let whole : 8 * sampleBytes g ≡ g .nbpp = omega (arith, eqb-true (g .nbpp % 8) 0 e) in
     all-below _ _ (λ k h.
-    lt-ltb _ _ (subst₂ (λ (x y : ℕ). x < 2 ^ y) (bitsAt-bytes dat (k * sampleBytes g) (sampleBytes g) b) whole
-    (bitsAt-lt dat (8 * (k * sampleBytes g)) (8 * sampleBytes g))))
+    lt-ltb _ _ (subst (λ (x : ℕ). beAt dat (k * sampleBytes g) (sampleBytes g) < 2 ^ x) whole (beAt-lt dat (k * sampleBytes g) (sampleBytes g) b)))

@@ -1,10 +1,10 @@
 -- Laws of tests: what they tell where they pass, and tests that go through a flag.
 -- Assumes nothing.
-use mathlib.Core.Path.{_≡_, refl, sym, subst}
+use mathlib.Core.Path.{_≡_, refl, sym, _∙_, subst}
 use mathlib.Core.Bool.{Bool, true, false}
 use mathlib.Core.List.{List, [], _∷_}
-use Prim.Native.Nat.{ℕ, zero, suc, _+_, _≤_, _<_}
-use native.Mathlib.Decide.{ℕ-discrete}
+use Prim.Native.Nat.{ℕ, zero, suc, _+_, _-_, _≤_, _<_}
+use native.Mathlib.Decide.{ℕ-discrete, decLt}
 use native.Mathlib.Numerals.{add-one}
 use native.Mathlib.Omega.{arith}
 use lib.ListN.{getD}
@@ -99,3 +99,29 @@ below-fails (suc n) f k h e = go (ℕ-discrete k n) (λ l. below-fails n f k l e
     go : Dec (k ≡ n) → (k < n → allBelow n f ≡ false) → every (allBelow n f ∷ f n ∷ []) ≡ false
     go (yes q) r = second-fails (allBelow n f) (f n) (subst (λ (x : ℕ). f x ≡ false) q e)
     go (no q) r = first-fails (allBelow n f) (f n) (r (omega arith))
+
+-- tests that agree
+pub below-ext : (n : ℕ) (f h : ℕ → Bool) → ((k : ℕ) → k < n → f k ≡ h k) → allBelow n f ≡ allBelow n h
+below-ext n f h e =
+    both-yes _ _
+    (λ all. all-below n h (λ k l. sym (e k l) ∙ below-at n f all k l))
+    (λ all. all-below n f (λ k l. e k l ∙ below-at n h all k l))
+
+-- where the first a pass, those after them decide
+pub below-more : (a n : ℕ) (f : ℕ → Bool) → a ≤ n → allBelow a f ≡ true → allBelow (n - a) (λ k. f (a + k)) ≡ allBelow n f
+below-more a n f l t =
+    both-yes _ _
+    (λ all. all-below n f (λ k h. go all k h (decLt k a)))
+    (λ all. all-below (n - a) _ (λ k h. below-at n f all (a + k) (omega arith)))
+  where
+    go : allBelow (n - a) (λ k. f (a + k)) ≡ true → (k : ℕ) → k < n → Dec (k < a) → f k ≡ true
+    go all k h (yes q) = below-at a f t k q
+    go all k h (no q) = subst (λ (x : ℕ). f x ≡ true) (let e : a + (k - a) ≡ k = omega arith in e) (below-at (n - a) _ all (k - a) (omega arith))
+
+-- and where one of the first a does not, all do not
+pub below-less : (a n : ℕ) (f : ℕ → Bool) → a ≤ n → allBelow a f ≡ false → allBelow n f ≡ false
+below-less a n f l t = fails (allBelow n f) (λ all. all-below a f (λ k h. below-at n f all k (omega arith)))
+  where
+    fails : (b : Bool) → (b ≡ true → allBelow a f ≡ true) → b ≡ false
+    fails true h = sym (h refl) ∙ t
+    fails false h = refl

@@ -2,8 +2,8 @@
 -- Assumes nothing.
 use Prim.Native.Nat.{ℕ, zero, suc, _+_, _-_, _*_, _/_, _%_, _^_, max, _≤_, _<_}
 use mathlib.Core.Path.{_≡_, refl, sym, ap, ap₂, _∙_, subst, subst₂}
-use mathlib.Core.Bool.{Bool, true, false}
-use mathlib.Core.List.{List, [], _∷_}
+use mathlib.Core.Bool.{true}
+use mathlib.Core.List.{List}
 use native.Mathlib.Decide.{ℕ-discrete, decLt}
 use native.Mathlib.Nat.{mul-assoc, add-mul, mul-le-mul-right, mod-lt, div-mul-le-self, div-add-mod', div-lt-iff-lt-mul, zero-add, add-zero}
 use native.Mathlib.Numerals.{add-one}
@@ -14,12 +14,12 @@ use lib.Dec.{ltb}
 use lib.ListN.{length, getD, set, replicate, getD-replicate}
 use lib.Pow.{pow-add}
 use lib.Seq.{getD-set-same, getD-set-other}
-use Rattle.common.specs.Tests.{every, pick, allBelow}
-use Rattle.common.proofs.Tests.{both-yes, below-at, all-below}
+use Rattle.common.specs.Tests.{allBelow}
+use Rattle.common.proofs.Tests.{both-yes, below-at, all-below, below-ext}
 use Rattle.bits.specs.Bits.{beAt, bitsAt, Bytes}
 use Rattle.fits.specs.Internal.Rows.{greatestOfFour}
 use Rattle.bits.proofs.Bits.{bitsAt-lt, bitsAt-add, within}
-use Rattle.bits.proofs.BigEndian.{bitsAt-bytes}
+use Rattle.bits.proofs.BigEndian.{bitsAt-bytes, beAt-lt}
 
 -- ---- a row raised by the bytes of four others
 
@@ -154,53 +154,28 @@ rows-same dat tops size in-row rows limit e h t =
         subst (λ (x : ℕ). getD dat x 0 < limit) (first-byte size in-row q i 128 e)
         (ltb-true _ _ (below-at (rows * in-row) _ all (q * in-row + i) (digits-lt m l)))))
 
--- ---- tests in two parts
+-- ---- samples in fours of rows, and those after them
 
-pub below-ext : (n : ℕ) (f h : ℕ → Bool) → ((k : ℕ) → k < n → f k ≡ h k) → allBelow n f ≡ allBelow n h
-below-ext n f h e =
-    both-yes _ _
-    (λ all. all-below n h (λ k l. sym (e k l) ∙ below-at n f all k l))
-    (λ all. all-below n f (λ k l. e k l ∙ below-at n h all k l))
+-- of `count` samples those in whole fours, which hold `in-four` each, and the rest, are inside n bytes
+pub record FoursIn (n size in-four count fours : ℕ) : Type 0 where
+  pub before : fours * in-four ≤ count
+  pub bytes : fours * 512 ≤ n
+  pub rest : fours * 512 + (count - fours * in-four) * size ≤ n
 
-pub below-more : (a n : ℕ) (f : ℕ → Bool) → a ≤ n → allBelow a f ≡ true → allBelow (n - a) (λ k. f (a + k)) ≡ allBelow n f
-below-more a n f l t =
-    both-yes _ _
-    (λ all. all-below n f (λ k h. go all k h (decLt k a)))
-    (λ all. all-below (n - a) _ (λ k h. below-at n f all (a + k) (omega arith)))
-  where
-    go : allBelow (n - a) (λ k. f (a + k)) ≡ true → (k : ℕ) → k < n → Dec (k < a) → f k ≡ true
-    go all k h (yes q) = below-at a f t k q
-    go all k h (no q) = subst (λ (x : ℕ). f x ≡ true) (let e : a + (k - a) ≡ k = omega arith in e) (below-at (n - a) _ all (k - a) (omega arith))
-
-pub below-less : (a n : ℕ) (f : ℕ → Bool) → a ≤ n → allBelow a f ≡ false → allBelow n f ≡ false
-below-less a n f l t = no (allBelow n f) (λ all. all-below a f (λ k h. below-at n f all k (omega arith)))
-  where
-    no : (b : Bool) → (b ≡ true → allBelow a f ≡ true) → b ≡ false
-    no true h = sym (h refl) ∙ t
-    no false h = refl
-
--- ---- samples in rows, and those after the last row
-
--- of `count` samples those in whole rows, and the rest, are inside n bytes
-pub record RowsIn (n size in-row count rows : ℕ) : Type 0 where
-  pub before : rows * in-row ≤ count
-  pub bytes : rows * 512 ≤ n
-  pub rest : rows * 512 + (count - rows * in-row) * size ≤ n
-
-pub rows-in : (n size in-row count : ℕ) → in-row * size ≡ 512 → count * size ≤ n → RowsIn n size in-row count (count / in-row)
-rows-in n size in-row count e h =
-    let a : ℕ = count / in-row * in-row in
-    let l : a ≤ count = div-mul-le-self count in-row in
-    let r : a * size ≡ count / in-row * 512 = mul-assoc (count / in-row) in-row size ∙ ap (λ (x : ℕ). count / in-row * x) e in
+pub fours-in : (n size in-four count : ℕ) → in-four * size ≡ 512 → count * size ≤ n → FoursIn n size in-four count (count / in-four)
+fours-in n size in-four count e h =
+    let a : ℕ = count / in-four * in-four in
+    let l : a ≤ count = div-mul-le-self count in-four in
+    let r : a * size ≡ count / in-four * 512 = mul-assoc (count / in-four) in-four size ∙ ap (λ (x : ℕ). count / in-four * x) e in
     let whole : a * size + (count - a) * size ≡ count * size
     = sym (add-mul a (count - a) size) ∙ ap (λ (x : ℕ). x * size) (let q : a + (count - a) ≡ count = omega arith in q) in
     record { before = l; bytes = omega arith; rest = omega arith }
 
--- the first byte of sample k after the rows
-pub rest-same : (dat : List ℕ) (size in-row rows count limit : ℕ) → in-row * size ≡ 512
-    → allBelow count (λ k. ltb (getD dat (rows * 512 + k * size) 0) limit) ≡ allBelow count (λ k. ltb (getD dat ((rows * in-row + k) * size) 0) limit)
-rest-same dat size in-row rows count limit e =
-    below-ext count _ _ (λ k l. ap (λ (x : ℕ). ltb (getD dat x 0) limit) (sym (first-byte size in-row rows k 512 e)))
+-- the first byte of sample k after the fours
+pub rest-same : (dat : List ℕ) (size in-four fours count limit : ℕ) → in-four * size ≡ 512
+    → allBelow count (λ k. ltb (getD dat (fours * 512 + k * size) 0) limit) ≡ allBelow count (λ k. ltb (getD dat ((fours * in-four + k) * size) 0) limit)
+rest-same dat size in-four fours count limit e =
+    below-ext count _ _ (λ k l. ap (λ (x : ℕ). ltb (getD dat x 0) limit) (sym (first-byte size in-four fours k 512 e)))
 
 pub none-before : (dat : List ℕ) (size count limit : ℕ)
     → allBelow count (λ k. ltb (getD dat (0 + k * size) 0) limit) ≡ allBelow count (λ k. ltb (getD dat (k * size) 0) limit)
@@ -243,7 +218,7 @@ first-says xs p size width b h l =
 -- samples that fill their bytes fit
 pub whole-fit : (xs : List ℕ) (n size width : ℕ) → Bytes xs → width ≡ 8 * size → allBelow n (λ k. ltb (beAt xs (k * size) size) (2 ^ width)) ≡ true
 whole-fit xs n size width b e =
-    all-below n _ (λ k l. lt-ltb _ _ (subst₂ (λ (x y : ℕ). x < 2 ^ y) (bitsAt-bytes xs (k * size) size b) (sym e) (bitsAt-lt xs (8 * (k * size)) (8 * size))))
+    all-below n _ (λ k l. lt-ltb _ _ (subst (λ (x : ℕ). beAt xs (k * size) size < 2 ^ x) (sym e) (beAt-lt xs (k * size) size b)))
 
 -- the first bytes tell whether samples fit
 pub first-tell : (xs : List ℕ) (n size width : ℕ) → Bytes xs → 0 < size → 8 * size < width + 8

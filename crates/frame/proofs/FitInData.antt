@@ -40,7 +40,7 @@ fit-at g row column dat e b r c t =
     (below-at (actualRows g row) _
     (below-at (g .bands) _ e b (t .in-b)) r (t .in-r)) c (t .in-c))
 
--- and so are its low NBPP bits
+-- so its low NBPP bits are the whole number
 pub whole-kept : (g : Grid) (row column : ℕ) (dat : List ℕ) → fitInData g row column dat ≡ true → (b r c : ℕ) → Sample g row column b r c
     → numberInData g row column dat b r c ≡ wholeInData g row column dat b r c
 unfolding numberInData

@@ -8,16 +8,10 @@ use lib.ListN.{length, getD, take, drop, length-take, length-drop, take-append-d
 use lib.Seq.{ext-getD, getD-drop}
 use Rattle.bits.specs.Bits.{Bytes, beAt}
 use Rattle.common.specs.Over.{over}
-use Rattle.bits.proofs.Bits.{bitsAt-lt}
-use Rattle.bits.proofs.BigEndian.{bitsAt-bytes}
 use Rattle.bits.specs.Values.{values}
 use Rattle.samples.specs.Internal.Samples.{spaced}
 use Rattle.bits.proofs.Values.{values-ext, values-none}
 use Rattle.samples.proofs.Moves.{spaced-bytes, gathered-run}
-
--- a number of s bytes
-pub beAt-lt : (xs : List ℕ) (k s : ℕ) → Bytes xs → beAt xs k s < 2 ^ (8 * s)
-beAt-lt xs k s b = rw (bitsAt-bytes xs k s b) at (bitsAt-lt xs (8 * k) (8 * s))
 
 -- a list is known by the samples that it starts with and the bytes after them
 pub whole-from-samples : (v : ℕ → ℕ) (s n : ℕ) (xs ys : List ℕ) → length ys ≡ length xs → Bytes ys → n * s ≤ length xs → ((k : ℕ) → k < n → beAt ys (k * s) s ≡ v k)

@@ -17,7 +17,7 @@ use Rattle.layout.specs.Bands.{bandsOf, bandCount, bandAt, q8}
 use Rattle.layout.proofs.Order.{Same3, ordinal-lt}
 use Rattle.interleave.specs.Interleave.{bandOf, rowOf, columnOf, sourceOf, reorderNumber, reorderedBytes, reorder, everyBand}
 use Rattle.interleave.proofs.Coordinates.{coordinates, coordinates-of, positive}
-use Rattle.interleave.proofs.KnownSamples.{beAt-lt}
+use Rattle.bits.proofs.BigEndian.{beAt-lt}
 use Rattle.interleave.proofs.Answers.{samples-of}
 
 -- ---- there and back

@@ -9,7 +9,7 @@ use borrow.Author.Tests.{eq-eqb}
 use lib.ListN.{length, getD}
 use lib.Pow.{pow-pos}
 use Rattle.bits.specs.Bits.{Bytes, bitsAt, beAt}
-use Rattle.bits.proofs.BigEndian.{bitsAt-bytes, putBits-keeps}
+use Rattle.bits.proofs.BigEndian.{bitsAt-bytes, beAt-lt, putBits-keeps}
 use Rattle.bits.specs.Values.{values}
 use Rattle.bits.proofs.Values.{values-ext}
 use Rattle.layout.specs.declared.InterleaveMode.{InterleaveMode}
@@ -28,7 +28,7 @@ use Rattle.moves.proofs.Stored.{byte-is}
 use Rattle.bits.proofs.Bits.{bitsAt-ext}
 use Rattle.common.specs.Over.{over}
 use Rattle.interleave.proofs.Coordinates.{coordinates}
-use Rattle.interleave.proofs.KnownSamples.{whole-from-samples, beAt-lt}
+use Rattle.interleave.proofs.KnownSamples.{whole-from-samples}
 use Rattle.moves.specs.Internal.Parts.{sampleAt, planesOf, PlanesReadable}
 use Rattle.interleave.specs.Interleave.{sourceOf, everyBand, bandOf, rowOf, columnOf}
 use Rattle.interleave.specs.Internal.OrderLayout.{orderLayout}

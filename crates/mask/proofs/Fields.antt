@@ -8,15 +8,14 @@ use native.Mathlib.Omega.{arith}
 use lib.Pow.{pow-mono}
 use Rattle.common.proofs.Arith.{prod-le}
 use Rattle.bits.specs.Bits.{Bytes, beAt}
-use Rattle.bits.proofs.Bits.{bitsAt-lt}
-use Rattle.bits.proofs.BigEndian.{bitsAt-bytes}
+use Rattle.bits.proofs.BigEndian.{beAt-lt}
 use Rattle.grid.specs.declared.Grid.{Grid}
 use Rattle.grid.specs.Check.{Accepted}
 use Rattle.mask.specs.Table.{records}
 use Rattle.mask.proofs.Records.{records-le}
 
 pub read-lt : (xs : List ℕ) (p s : ℕ) {r : ℕ} → Bytes xs → r ≡ beAt xs p s → r < 2 ^ (8 * s)
-read-lt xs p s b e = rw e (rw (bitsAt-bytes xs p s b) at (bitsAt-lt xs (8 * p) (8 * s)))
+read-lt xs p s b e = rw e (beAt-lt xs p s b)
 
 -- a pad code
 pub code-lt : (xs : List ℕ) (s : ℕ) {r : ℕ} → Bytes xs → s ≤ 4 → r ≡ beAt xs 10 s → r < 2 ^ 32

@@ -19,8 +19,8 @@ use Rattle.common.proofs.Questions.{outcome-yes, outcome-zero}
 use Rattle.common.proofs.Tests.{pick-yes, pick-no}
 use Rattle.bits.specs.Bits.{Bytes, beAt, beBytes}
 use Rattle.bits.specs.Values.{values, sideBySide}
-use Rattle.bits.proofs.Bits.{within, bitsAt-lt}
-use Rattle.bits.proofs.BigEndian.{length-beBytes, bitsAt-bytes}
+use Rattle.bits.proofs.Bits.{within}
+use Rattle.bits.proofs.BigEndian.{length-beBytes, beAt-lt}
 use Rattle.bits.proofs.Values.{length-values, values-ext, side-by-side, beAt-ext, beAt-beBytes, beAt-values, beBytes-beAt}
 use Rattle.layout.specs.Order.{bandsApart}
 use Rattle.grid.specs.declared.Grid.{Grid}
@@ -91,10 +91,6 @@ parse-is : (g : Grid) (table : List ℕ) → parseNumber g table ≡ 0
     → parse g table ≡ record { number = 0; mask = header table; used = maskSize g (header table) }
 unfolding parse
 parse-is g table z = outcome-yes _ noParse z
-
--- a number of s bytes fits them
-beAt-lt : (table : List ℕ) (k s : ℕ) → Bytes table → beAt table k s < 2 ^ (8 * s)
-beAt-lt table k s b = rw (← bitsAt-bytes table k s b) (bitsAt-lt table (8 * k) (8 * s))
 
 -- the write accepts a parsed table's own header and records
 own-accepted : (g : Grid) (table : List ℕ) (l : ℕ) → Bytes table → parseNumber g table ≡ 0

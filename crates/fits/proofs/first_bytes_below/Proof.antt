@@ -1,4 +1,4 @@
--- `fits::first_bytes_below` meets its contract: the samples in rows, and those after the last row.
+-- `fits::first_bytes_below` meets its contract: the samples in fours of rows, and those after them.
 -- Assumes nothing.
 use borrow.Author.Needs.{needs}
 use mathlib.Core.Path.{_≡_, sym, ap, _∙_}
@@ -9,7 +9,8 @@ use denote.Ref.{now}
 use lib.Dec.{ltb}
 use lib.ListN.{length, getD}
 use Rattle.common.proofs.Flags.{no, yes}
-use Rattle.fits.proofs.FirstBytes.{RowsIn, rows-in, size-pos, rest-same, none-before, below-more, below-less}
+use Rattle.common.proofs.Tests.{below-more, below-less}
+use Rattle.fits.proofs.FirstBytes.{FoursIn, fours-in, size-pos, rest-same, none-before}
 use Rattle.fits.proofs.first_bytes_below.Statement.{statement}
 use Rattle.fits.proofs.first_bytes_below.Tie as tie
 
@@ -27,10 +28,10 @@ foured : (c : tie.Else1) → let a = c .before .before .args in 4 * (128 / a .si
 foured c = let a = c .before .before .args in mul-assoc 4 (128 / a .size) (a .size) ∙ ap (λ (n : ℕ). 4 * n) (rowed c)
 
 cut : (c : tie.Else1) → let a = c .before .before .args in let n = length (now (a .dat)) in
-    RowsIn n (a .size) (4 * (128 / a .size)) (n / a .size) (n / a .size / (4 * (128 / a .size)))
+    FoursIn n (a .size) (4 * (128 / a .size)) (n / a .size) (n / a .size / (4 * (128 / a .size)))
 cut c =
     let a = c .before .before .args in
-    rows-in (length (now (a .dat))) (a .size) (4 * (128 / a .size)) (length (now (a .dat)) / a .size) (foured c) (div-mul-le-self (length (now (a .dat))) (a .size))
+    fours-in (length (now (a .dat))) (a .size) (4 * (128 / a .size)) (length (now (a .dat)) / a .size) (foured c) (div-mul-le-self (length (now (a .dat))) (a .size))
 
 in-row-pos : (c : tie.Else1) → 0 < 128 / c .before .before .args .size
 in-row-pos c =

@@ -10,8 +10,7 @@ use denote.Ref.{now}
 use lib.ListN.{getD}
 use lib.Pow.{pow-mono}
 use Rattle.bits.specs.Bits.{beAt, Bytes}
-use Rattle.bits.proofs.Bits.{bitsAt-lt}
-use Rattle.bits.proofs.BigEndian.{bitsAt-bytes}
+use Rattle.bits.proofs.BigEndian.{beAt-lt}
 use Rattle.bits.proofs.bytes.get_be.Statement.{statement}
 use Rattle.bits.proofs.bytes.get_be.Tie as tie
 
@@ -23,7 +22,7 @@ abbrev μ-loop : tie.MeasureT-loop
 
 -- a number of at most seven bytes
 room : (xs : List ℕ) (p j : ℕ) → Bytes xs → j < 8 → beAt xs p j < 2 ^ 56
-room xs p j b h = lt-of-lt-of-le (rw (bitsAt-bytes xs p j b) at (bitsAt-lt xs (8 * p) (8 * j))) (pow-mono {i = 8 * j} {j = 56} (omega arith))
+room xs p j b h = lt-of-lt-of-le (beAt-lt xs p j b) (pow-mono {i = 8 * j} {j = 56} (omega arith))
 
 -- a turn: one more byte
 turn : (xs : List ℕ) (p j acc : ℕ) → acc ≡ beAt xs p j → acc * 256 + getD xs (p + j) 0 ≡ beAt xs p (j + 1)
