@@ -5,8 +5,8 @@
 
 Needs gdal_translate (Debian's gdal-bin; the images that are kept came from GDAL 3.6.2). Each image has 13 rows, 19
 columns, 2 bands, blocks of 4 rows and 8 columns, IC NC and IMODE B; the samples are seeded random numbers of 8, 16, 32
-and 64 bits. The samples that are printed are those that GDAL reads out of its own images, as raw files. The image
-wide.ntf and its lines, the last ones of stdout, come from tools/wide_image.py.
+and 64 bits. The samples that are printed are those that GDAL reads out of its own images, as raw files. The other
+images and their lines, the last ones of stdout, come from tools/wide_image.py and then tools/packed_images.py.
 """
 import struct
 import subprocess

@@ -43,4 +43,5 @@ def main():
             show(f"row {row} column {column} ", sample, row, column, 1, SHOWN, SHOWN * BANDS)
 
 
-main()
+if __name__ == "__main__":
+    main()

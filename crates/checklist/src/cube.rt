@@ -3,6 +3,7 @@ ghost use mathlib.Core.Path.{_≡_};
 ghost use Prim.Native.Nat.{_<_, _≤_};
 ghost use lib.ListN.{length};
 use calls::Shape;
+use grid::EdgeRule;
 use grid::Grid;
 use layout::InterleaveMode;
 
@@ -16,7 +17,7 @@ fn mode(i: usize) -> InterleaveMode {
 }
 
 pub fn grid_in(i: usize) -> Grid {
-    Grid::new(5, 7, 3, 12, mode(i), 4, 3)
+    Grid::new(5, 7, 3, 12, mode(i), EdgeRule::Tight, 4, 3)
 }
 
 // Actual rows of a block.

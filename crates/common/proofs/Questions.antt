@@ -20,6 +20,13 @@ ask-inv n false rest h e = absurd (omega arith)
 
 -- ---- a call's outcome
 
+-- what is done with either outcome is done with both
+pub outcome-map : {A B : Type 0} (f : A → B) (n : ℕ) (accepted : A) (refused : ℕ → A)
+    → outcome n (f accepted) (λ k. f (refused k)) ≡ f (outcome n accepted refused)
+unfolding outcome
+outcome-map f zero accepted refused = refl
+outcome-map f (suc n) accepted refused = refl
+
 pub outcome-yes {ℓ} : {A : Type ℓ} {n : ℕ} (accepted : A) (refused : ℕ → A) → n ≡ 0 → outcome n accepted refused ≡ accepted
 unfolding outcome
 outcome-yes accepted refused e = rw e

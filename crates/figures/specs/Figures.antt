@@ -1,11 +1,13 @@
--- Document 01's figures to hold it against, k's last sample as document 02 has it: what the definitions give, beside
--- what the papers say.
+-- Document 01's figures to hold it against, k's last sample as document 02 has it, and m under both of its edge rules:
+-- what the definitions give, beside what the papers say.
 -- Assumes nothing.
 use Prim.Native.Nat.{ℕ, suc, _+_, _-_, _*_, _/_, _%_, _^_}
 use mathlib.Core.Bool.{true, false}
 use mathlib.Core.List.{List, [], _∷_, _++_}
 use lib.ListN.{take, drop, replicate}
 use Rattle.bits.specs.Bits.{putBits}
+use Rattle.grid.specs.declared.EdgeRule.{EdgeRule}
+use Rattle.grid.specs.declared.EdgeRule.the-variants.{Tight, Full}
 use Rattle.grid.specs.declared.Grid.{Grid}
 use Rattle.layout.specs.declared.InterleaveMode.{InterleaveMode}
 use Rattle.layout.specs.declared.InterleaveMode.the-variants.{B, P, R, S}
@@ -34,7 +36,7 @@ pub record Figure : Type 0 where
 
 -- picture 3 rows by 5 columns, blocks 2 rows by 4 columns, 2 bands, NBPP 8
 abbrev pub small : InterleaveMode → Grid
-small mode = gridOf 3 5 2 8 mode 4 2
+small mode = gridOf 3 5 2 8 mode Tight 4 2
 
 -- the bytes at which the two samples of block (1, 1) lie
 unfoldable pub corner : InterleaveMode → List ℕ
@@ -55,11 +57,11 @@ listed list = bandsOf false list
 
 -- one row of n columns, one band, one block
 abbrev pub line : ℕ → ℕ → Grid
-line nbpp n = gridOf 1 n 1 nbpp B n 1
+line nbpp n = gridOf 1 n 1 nbpp B Tight n 1
 
--- picture 2 by 3, blocks 2 by 2, NBPP 4
-abbrev pub edge : Grid
-edge = gridOf 2 3 1 4 B 2 2
+-- picture 2 by 3, blocks 2 by 2, NBPP 4, under an edge rule
+abbrev pub edge : EdgeRule → Grid
+edge rule = gridOf 2 3 1 4 B rule 2 2
 
 -- samples vs, from number n on, row by row, put at the places of a block of one band
 unfoldable pub laid : Grid → ℕ → ℕ → ℕ → List ℕ → List ℕ → List ℕ
@@ -102,7 +104,7 @@ writeOn grid columns dat =
 -- the table of a picture of two blocks in B, written to 18 bytes: the number and the bytes
 unfoldable pub maskOf : List ℕ → List ℕ
 maskOf offsets =
-    let r : WrittenOut = toBytes (gridOf 1 2 1 8 B 1 1) marksMask offsets [] (replicate 18 0) in
+    let r : WrittenOut = toBytes (gridOf 1 2 1 8 B Tight 1 1) marksMask offsets [] (replicate 18 0) in
     r .answer .number ∷ r .out
 
 unfoldable pub figures : List Figure
@@ -158,16 +160,35 @@ figures =
       found = runOf (line 1 10) 0 0 1 10 (1 ∷ 0 ∷ 1 ∷ 1 ∷ 0 ∷ 0 ∷ 0 ∷ 1 ∷ 1 ∷ 1 ∷ []);
       paper = 0 ∷ 0 ∷ 1 ∷ 0 ∷ 0xB1 ∷ 0xC0 ∷ 1 ∷ 0 ∷ 1 ∷ 1 ∷ 0 ∷ 0 ∷ 0 ∷ 1 ∷ 1 ∷ 1 ∷ [];
     }
-    ∷ record { letter = fig-m; found = take 2 (drop 2 (imageWith edge 0 1 (5 ∷ 9 ∷ []))); paper = 0x59 ∷ 0x00 ∷ [] }
     ∷ record {
       letter = fig-m;
-      found = runOf edge 0 1 2 1 (5 ∷ 9 ∷ []);
+      found = take 2 (drop 2 (imageWith (edge Tight) 0 1 (5 ∷ 9 ∷ [])));
+      paper = 0x59 ∷ 0x00 ∷ [];
+    }
+    ∷ record {
+      letter = fig-m;
+      found = runOf (edge Tight) 0 1 2 1 (5 ∷ 9 ∷ []);
       paper = 0 ∷ 0 ∷ 1 ∷ 15 ∷ 0 ∷ 0 ∷ 0x59 ∷ 0x00 ∷ 5 ∷ [];
     }
     ∷ record {
       letter = fig-m;
-      found = writeOver edge 0 1 2 1 (5 ∷ 9 ∷ []);
+      found = writeOver (edge Tight) 0 1 2 1 (5 ∷ 9 ∷ []);
       paper = 0 ∷ 0xFF ∷ 0xFF ∷ 0x59 ∷ 0x00 ∷ [];
+    }
+    ∷ record {
+      letter = fig-m;
+      found = take 2 (drop 2 (imageWith (edge Full) 0 1 (5 ∷ 9 ∷ [])));
+      paper = 0x50 ∷ 0x90 ∷ [];
+    }
+    ∷ record {
+      letter = fig-m;
+      found = runOf (edge Full) 0 1 2 1 (5 ∷ 9 ∷ []);
+      paper = 0 ∷ 0 ∷ 1 ∷ 15 ∷ 0 ∷ 0 ∷ 0x50 ∷ 0x90 ∷ 5 ∷ [];
+    }
+    ∷ record {
+      letter = fig-m;
+      found = writeOver (edge Full) 0 1 2 1 (5 ∷ 9 ∷ []);
+      paper = 0 ∷ 0xFF ∷ 0xFF ∷ 0x50 ∷ 0x90 ∷ [];
     }
     ∷ record {
       letter = fig-n;
@@ -176,6 +197,8 @@ figures =
           0 ∷ 0x00 ∷ 0x00 ∷ 0x00 ∷ 0x12 ∷ 0x00 ∷ 0x04 ∷ 0x00 ∷ 0x00 ∷ 0x00 ∷ 0x00
           ∷ 0x00 ∷ 0x00 ∷ 0x00 ∷ 0x00 ∷ 0xFF ∷ 0xFF ∷ 0xFF ∷ 0xFF ∷ [];
     }
-    ∷ record { letter = no-letter; found = byCalls; paper = byHand }
-    ∷ record { letter = no-letter; found = byPlainFrame; paper = byHand }
+    ∷ record { letter = no-letter; found = byCalls Tight; paper = byHand }
+    ∷ record { letter = no-letter; found = byPlainFrame Tight; paper = byHand }
+    ∷ record { letter = no-letter; found = byCalls Full; paper = byHand }
+    ∷ record { letter = no-letter; found = byPlainFrame Full; paper = byHand }
     ∷ []

@@ -1,4 +1,4 @@
--- A list of calls on one picture, what the calls tell of it and what the plain frame does.
+-- A list of calls on one picture under either edge rule, what the calls tell of it and what the plain frame does.
 -- Assumes nothing.
 use Prim.Native.Nat.{ℕ, _-_, _^_}
 use mathlib.Core.Bool.{false}
@@ -6,6 +6,7 @@ use mathlib.Core.List.{List, [], _∷_, _++_}
 use lib.ListN.{take, replicate}
 use Rattle.layout.specs.declared.InterleaveMode.the-variants.{P}
 use Rattle.layout.specs.Bands.{bandsOf}
+use Rattle.grid.specs.declared.EdgeRule.{EdgeRule}
 use Rattle.grid.specs.Check.{gridOf}
 use Rattle.calls.specs.declared.Answer.{Answer}
 use Rattle.calls.specs.Answers.{Filled}
@@ -18,12 +19,12 @@ use Rattle.frame.specs.Demand3.{plain}
 
 -- 3 rows by 5 columns, blocks 2 rows by 4 columns, 2 bands, NBPP 12 in P: 4 blocks of 24 bytes. Image and marks are
 -- longer than that and full of ones; start is lent less of them than the calls after it
-abbrev pub begun : Start
-begun =
+abbrev pub begun : EdgeRule → Start
+begun rule =
     record {
       n = 97;
       m = 1;
-      grid = gridOf 3 5 2 12 P 4 2;
+      grid = gridOf 3 5 2 12 P rule 4 2;
       image = replicate 100 255;
       marks = (2 ^ 64 - 1) ∷ 7 ∷ [];
     }
@@ -58,15 +59,18 @@ abbrev pub told : List Answer → Filled → List ℕ
 told answers seen = flat answers ++ seen .out
 
 -- what the calls tell, the window on 96 bytes of the image; and what the plain frame tells
-unfoldable pub byCalls : List ℕ
-byCalls =
-    told (after begun asked .answers)
-    (window (inForce begun asked) (take 96 (after begun asked .state .image)) part (replicate 17 9))
+unfoldable pub byCalls : EdgeRule → List ℕ
+byCalls rule =
+    let s : Start = begun rule in
+    told (after s asked .answers)
+    (window (inForce s asked) (take 96 (after s asked .state .image)) part (replicate 17 9))
 
-unfoldable pub byPlainFrame : List ℕ
-byPlainFrame = told (plain begun asked .answers) (frameWindow (plain begun asked .frame) 96 part (replicate 17 9))
+unfoldable pub byPlainFrame : EdgeRule → List ℕ
+byPlainFrame rule =
+    let s : Start = begun rule in
+    told (plain s asked .answers) (frameWindow (plain s asked .frame) 96 part (replicate 17 9))
 
--- worked out by hand from documents 01 and 02
+-- worked out by hand from documents 01 and 02; it is the same under both rules
 abbrev pub byHand : List ℕ
 byHand =
     0 ∷ 0 ∷ 0

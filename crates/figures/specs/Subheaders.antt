@@ -4,6 +4,7 @@
 use Prim.Native.Nat.{ℕ}
 use mathlib.Core.List.{List, [], _∷_, _++_}
 use lib.ListN.{replicate}
+use Rattle.grid.specs.declared.EdgeRule.the-variants.{Tight}
 use Rattle.grid.specs.declared.Grid.{Grid}
 use Rattle.subheader.specs.declared.ReadSubheader.{ReadSubheader}
 use Rattle.subheader.specs.Subheader.{PartsOut, readSubheader, writeSubheader}
@@ -34,7 +35,7 @@ thirdPart =
     ++ (0x30 ∷ 0x38 ∷ [])
 
 abbrev pub theRead : ReadSubheader
-theRead = readSubheader firstPart secondPart thirdPart 1
+theRead = readSubheader firstPart secondPart thirdPart 1 Tight
 
 -- the grid's numbers, in the order of its fields
 abbrev pub numbers : Grid → List ℕ

@@ -12,6 +12,7 @@ pub mod ListOfCalls
 pub mod WindowNumbers
 pub mod Demand3Holds
 pub mod DeterminedHolds
+pub mod EitherRuleHolds
 pub mod LastAccepted
 pub mod Unreached
 pub mod OwnWordsHold

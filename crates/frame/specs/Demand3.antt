@@ -21,7 +21,7 @@ use Rattle.frame.specs.PlainFrame.{Frame, FrameCalled, frame0, frameCall
 abbrev pub plain : Start → List Call → FrameCalled
 plain s cs = frameCallAll cs (frame0 (s .grid) (length (s .image)) (length (s .marks)))
 
--- two grids with the same rows, columns, bands and NBPP, under whatever modes and block sizes
+-- two grids with the same rows, columns, bands and NBPP, under whatever modes, block sizes and edge rules
 pub record SamePicture (g h : Grid) : Type 0 where
   pub nrows : g .nrows ≡ h .nrows
   pub ncols : g .ncols ≡ h .ncols

@@ -5,3 +5,4 @@ pub mod PlainFrame
 pub mod Demand3
 pub mod OwnWords
 pub mod Determined
+pub mod EitherRule

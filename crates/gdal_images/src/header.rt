@@ -1,6 +1,7 @@
 // Where the three parts of the image subheader and the image stand, in a file of MIL-STD-2500C with one image of two
 // bands that has no corner coordinates (ICORDS), no comments (NICOM) and no look-up tables (NLUTS).
 ghost use Prim.Native.Nat.{_<_};
+use grid::EdgeRule;
 use subheader::ImageSubheader;
 use subheader::ReadSubheader;
 
@@ -73,10 +74,10 @@ pub fn image_end(file: &[u8]) -> usize {
     image_start(file) + field(file, LI001, 10)
 }
 
-// What the image subheader says.
+// What the image subheader says; the standard's blocks are full.
 pub fn subheader_of(file: &[u8]) -> ReadSubheader {
     let first = part(file, NROWS, ImageSubheader::FIRST_BYTES);
     let second = part(file, IC, ImageSubheader::SECOND_BYTES);
     let third = part(file, IMODE, ImageSubheader::THIRD_BYTES);
-    ImageSubheader::read(first, second, third, bands(file))
+    ImageSubheader::read(first, second, third, bands(file), EdgeRule::Full)
 }

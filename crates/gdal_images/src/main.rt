@@ -1,7 +1,8 @@
 // Reads NITF images that GDAL wrote, block by block and row by row, and prints their samples. Of one more image, in one
-// block of 9,000 columns, it prints some columns.
+// block of 9,000 columns, it prints some columns. Two more have packed edge blocks, at 12 and at 4 bits.
 // tools/gdal_images.py made GDAL's images in data/, and their lines of stdout from what GDAL reads out of them.
 // tools/wide_image.py made the image with the wide block, and its lines.
+// tools/packed_images.py made the packed images, and their lines from what GDAL reads out of them.
 mod header;
 
 use crate::header::image_end;
@@ -134,4 +135,6 @@ fn main() {
     print_named(b"32.ntf");
     print_named(b"64.ntf");
     print_named(b"wide.ntf");
+    print_named(b"12.ntf");
+    print_named(b"4.ntf");
 }

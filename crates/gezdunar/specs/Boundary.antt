@@ -1,10 +1,12 @@
--- The C boundary: the grid crosses as its numbers, with IMODE as its letter's byte; a byte that is no mode is refused
--- with 99, before question 1.
+-- The C boundary: the grid crosses as its numbers, with IMODE as its letter's byte and the edge rule as T or F; a byte
+-- that is no mode, or no rule, is refused with 99, before question 1.
 -- Assumes nothing.
 use Prim.Native.Nat.{ℕ, _+_, _*_}
 use mathlib.Core.Bool.{false}
 use mathlib.Core.List.{List}
 use lib.Dec.{eqb}
+use Rattle.grid.specs.declared.EdgeRule.{EdgeRule}
+use Rattle.grid.specs.declared.EdgeRule.the-variants.{Tight, Full}
 use Rattle.grid.specs.declared.Grid.{Grid}
 use Rattle.layout.specs.declared.InterleaveMode.{InterleaveMode}
 use Rattle.layout.specs.declared.InterleaveMode.the-variants.{B, P, R, S}
@@ -29,24 +31,27 @@ use Rattle.gezdunar.specs.declared.Place.{Place}
 use Rattle.gezdunar.specs.declared.GridSizes.{GridSizes}
 use Rattle.gezdunar.specs.declared.names.NamedMode.{NamedMode}
 use Rattle.gezdunar.specs.declared.names.NamedMode.the-variants.{Mode, NoMode}
+use Rattle.gezdunar.specs.declared.names.NamedRule.{NamedRule}
+use Rattle.gezdunar.specs.declared.names.NamedRule.the-variants.{Rule, NoRule}
 use Rattle.gezdunar.specs.declared.names.NamedGrid.{NamedGrid}
 use Rattle.gezdunar.specs.declared.names.NamedGrid.the-variants.{Known, Unknown}
 
 -- ---- the version and the grid
 
--- the boundary's version, 0.4.0: major, minor and patch
+-- the boundary's version, 0.5.0: major, minor and patch
 abbrev pub version : ℕ
-version = 0 * 1_000_000 + 4 * 1_000 + 0
+version = 0 * 1_000_000 + 5 * 1_000 + 0
 
 -- the numbers of a picture in blocks of NPPBV rows and NPPBH columns: NBPR and NBPC by rounding up, 0 for a side 0
-abbrev pub numbersOf : ℕ → ℕ → ℕ → ℕ → ℕ → ℕ → ℕ → GridNumbers
-numbersOf nrows ncols bands nbpp imode nppbv nppbh =
+abbrev pub numbersOf : ℕ → ℕ → ℕ → ℕ → ℕ → ℕ → ℕ → ℕ → GridNumbers
+numbersOf nrows ncols bands nbpp imode edges nppbv nppbh =
     record {
       nrows = nrows;
       ncols = ncols;
       bands = bands;
       nbpp = nbpp;
       imode = imode;
+      edges = edges;
       nppbh = nppbh;
       nppbv = nppbv;
       nbpr = ceilDiv ncols nppbh;
@@ -59,33 +64,42 @@ modeOf byte =
     pick (eqb byte 66) (Mode B)
     (pick (eqb byte 80) (Mode P) (pick (eqb byte 82) (Mode R) (pick (eqb byte 83) (Mode S) NoMode)))
 
--- what a call gives in a known mode or on a known grid, and what it gives where the byte is no mode
+-- the edge rule of a letter's byte
+unfoldable pub ruleOf : ℕ → NamedRule
+ruleOf byte = pick (eqb byte 84) (Rule Tight) (pick (eqb byte 70) (Rule Full) NoRule)
+
+-- what a call gives in a known mode, under a known rule or on a known grid, and what it gives where the byte is none
 abbrev pub onMode : {A : Type 0} → NamedMode → (InterleaveMode → A) → A → A
 onMode (Mode m) call refused = call m
 onMode NoMode call refused = refused
+
+abbrev pub onRule : {A : Type 0} → NamedRule → (EdgeRule → A) → A → A
+onRule (Rule e) call refused = call e
+onRule NoRule call refused = refused
 
 abbrev pub onGrid : {A : Type 0} → NamedGrid → (Grid → A) → A → A
 onGrid (Known g) call refused = call g
 onGrid Unknown call refused = refused
 
--- the grid of the numbers in a mode
-abbrev pub gridIn : GridNumbers → InterleaveMode → Grid
-gridIn n m =
+-- the grid of the numbers in a mode, under a rule
+abbrev pub gridIn : GridNumbers → InterleaveMode → EdgeRule → Grid
+gridIn n m e =
     record {
       nrows = n .nrows;
       ncols = n .ncols;
       bands = n .bands;
       nbpp = n .nbpp;
       imode = m;
+      edges = e;
       nppbh = n .nppbh;
       nppbv = n .nppbv;
       nbpr = n .nbpr;
       nbpc = n .nbpc;
     }
 
--- the grid that the numbers name, unless IMODE's byte is no mode
+-- the grid that the numbers name, unless IMODE's byte is no mode or the rule's byte is no rule
 unfoldable pub namedGrid : GridNumbers → NamedGrid
-namedGrid n = onMode (modeOf (n .imode)) (λ m. Known (gridIn n m)) Unknown
+namedGrid n = onMode (modeOf (n .imode)) (λ m. onRule (ruleOf (n .edges)) (λ e. Known (gridIn n m e)) Unknown) Unknown
 
 -- ---- answers
 
@@ -96,7 +110,7 @@ writtenOut answer out = record { answer = answer; out = out }
 abbrev pub marksOut : Parsed → List ℕ → MarksOut
 marksOut answer out = record { answer = answer; out = out }
 
--- the answers where the byte is no mode
+-- the answers where a byte is no mode or no rule
 abbrev pub noModeShape : Shape
 noModeShape = noShape 99
 

@@ -1,5 +1,5 @@
--- The subheader's fields across the C boundary: named values as their bytes. A byte that is no named value is refused
--- with 24, before question 1.
+-- The subheader's fields across the C boundary: named values as their bytes. A byte that is no edge rule is refused with
+-- 99, then one that is no named value with 24, before question 1.
 -- Assumes nothing.
 use Prim.Native.Nat.{ℕ}
 use mathlib.Core.Bool.{Bool}
@@ -8,6 +8,8 @@ use lib.ListN.{getD, replicate}
 use Rattle.common.specs.Questions.{outcome}
 use Rattle.common.specs.Tests.{every, pick}
 use Rattle.layout.specs.declared.InterleaveMode.the-variants.{B}
+use Rattle.grid.specs.declared.EdgeRule.{EdgeRule}
+use Rattle.grid.specs.declared.EdgeRule.the-variants.{Tight, Full}
 use Rattle.grid.specs.declared.Grid.{Grid}
 use Rattle.fields.specs.declared.named.PixelValueType.the-variants.{UnsignedInt}
 use Rattle.fields.specs.declared.named.PixelJustification.the-variants.{Right}
@@ -20,9 +22,14 @@ use Rattle.subheader.specs.Subheader.{PartsOut, partsOut, writeSubheader}
 use Rattle.gezdunar.specs.declared.GridNumbers.{GridNumbers}
 use Rattle.gezdunar.specs.declared.SubheaderBytes.{SubheaderBytes}
 use Rattle.gezdunar.specs.declared.SubheaderAnswer.{SubheaderAnswer}
-use Rattle.gezdunar.specs.Boundary.{gridIn}
+use Rattle.gezdunar.specs.Boundary.{ruleOf, onRule, gridIn}
 
 -- ---- reading
+
+-- the letter of an edge rule
+abbrev pub edgesLetter : EdgeRule → ℕ
+edgesLetter Tight = 84
+edgesLetter Full = 70
 
 -- a grid's numbers
 abbrev pub numbersIn : Grid → GridNumbers
@@ -33,6 +40,7 @@ numbersIn g =
       bands = g .bands;
       nbpp = g .nbpp;
       imode = getD (imodeText (g .imode)) 0 0;
+      edges = edgesLetter (g .edges);
       nppbh = g .nppbh;
       nppbv = g .nppbv;
       nbpr = g .nbpr;
@@ -54,7 +62,18 @@ bytesOf s =
 -- what stands beside a refusal: zeros
 abbrev pub noNumbers : GridNumbers
 noNumbers =
-    record { nrows = 0; ncols = 0; bands = 0; nbpp = 0; imode = 0; nppbh = 0; nppbv = 0; nbpr = 0; nbpc = 0 }
+    record {
+      nrows = 0;
+      ncols = 0;
+      bands = 0;
+      nbpp = 0;
+      imode = 0;
+      edges = 0;
+      nppbh = 0;
+      nppbv = 0;
+      nbpr = 0;
+      nbpc = 0;
+    }
 
 abbrev pub noBytes : ℕ → SubheaderAnswer
 noBytes n =
@@ -87,9 +106,9 @@ areNamed s =
     ∷ isNamed imodeText imodes (s .grid .imode ∷ [])
     ∷ [])
 
--- the fields that the bytes name
-abbrev pub fieldsOf : SubheaderBytes → ImageSubheader
-fieldsOf s =
+-- the fields that the bytes name, under an edge rule
+abbrev pub fieldsOf : SubheaderBytes → EdgeRule → ImageSubheader
+fieldsOf s e =
     record {
       pvtype = valueOf pvtypeText pvtypes UnsignedInt (s .pvtype);
       irep = s .irep;
@@ -97,10 +116,14 @@ fieldsOf s =
       abpp = s .abpp;
       pjust = valueOf pjustText pjusts Right (s .pjust ∷ []);
       ic = valueOf icText ics NC (s .ic);
-      grid = gridIn (s .grid) (valueOf imodeText imodes B (s .grid .imode ∷ []));
+      grid = gridIn (s .grid) (valueOf imodeText imodes B (s .grid .imode ∷ [])) e;
     }
 
--- the writer, on fields that cross as bytes
+-- the writer, on fields that cross as bytes, under a rule and where its byte is none; the rule is not written
+unfoldable pub writeUnder : EdgeRule → SubheaderBytes → List ℕ → List ℕ → List ℕ → PartsOut
+writeUnder e s first second third =
+    pick (areNamed s) (writeSubheader (fieldsOf s e) first second third) (partsOut 24 first second third)
+
 unfoldable pub writeBytes : SubheaderBytes → List ℕ → List ℕ → List ℕ → PartsOut
 writeBytes s first second third =
-    pick (areNamed s) (writeSubheader (fieldsOf s) first second third) (partsOut 24 first second third)
+    onRule (ruleOf (s .grid .edges)) (λ e. writeUnder e s first second third) (partsOut 99 first second third)

@@ -1,5 +1,5 @@
 // The C boundary: one function for each call, over the proved entry points. Slices cross as a pointer and a length,
-// the grid as a struct of its numbers; a byte that is no mode is refused with 99, before question 1.
+// the grid as a struct of its numbers; a byte that is no mode, or no edge rule, is refused with 99, before question 1.
 mod masks;
 mod names;
 mod reads;
@@ -8,7 +8,7 @@ mod sizes;
 mod subheaders;
 mod writes;
 
-// The grid's numbers, IMODE as its letter's byte.
+// The grid's numbers, IMODE as its letter's byte, and the edge rule as T or F.
 #[repr(C)]
 pub struct GridNumbers {
     pub nrows: u32,
@@ -16,6 +16,7 @@ pub struct GridNumbers {
     pub bands: u32,
     pub nbpp: u32,
     pub imode: u8,
+    pub edges: u8,
     pub nppbh: u32,
     pub nppbv: u32,
     pub nbpr: u32,

@@ -1,7 +1,8 @@
 // The version, a grid's numbers, and the grid that numbers name.
 ghost use mathlib.Core.Path.{_≡_};
-ghost use Rattle.gezdunar.specs.Boundary.{version, numbersOf, modeOf, gridIn, namedGrid};
+ghost use Rattle.gezdunar.specs.Boundary.{version, numbersOf, modeOf, ruleOf, gridIn, namedGrid};
 use crate::GridNumbers;
+use grid::EdgeRule;
 use grid::Grid;
 use layout::InterleaveMode;
 
@@ -11,7 +12,13 @@ pub enum NamedMode {
     NoMode,
 }
 
-// The grid that numbers name, unless IMODE's byte is no mode.
+// The edge rule of a byte.
+pub enum NamedRule {
+    Rule(EdgeRule),
+    NoRule,
+}
+
+// The grid that numbers name, unless IMODE's byte is no mode or the rule's byte is no rule.
 pub enum NamedGrid {
     Known(Grid),
     Unknown,
@@ -22,7 +29,7 @@ pub enum NamedGrid {
 pub extern "C" fn gezdunar_version() -> u32
     ensures { λ r. ⌜ r ≡ version ⌝ }
 {
-    4_000
+    5_000
 }
 
 // The numbers of a picture in blocks; NBPR and NBPC follow from the sides.
@@ -33,19 +40,30 @@ pub extern "C" fn gezdunar_grid(
     bands: u32,
     nbpp: u32,
     imode: u8,
+    edges: u8,
     nppbv: u32,
     nppbh: u32,
 ) -> GridNumbers
-    ensures { λ r. ⌜ r ≡ numbersOf nrows ncols bands nbpp imode nppbv nppbh ⌝ }
+    ensures { λ r. ⌜ r ≡ numbersOf nrows ncols bands nbpp imode edges nppbv nppbh ⌝ }
 {
-    // The block counts are the same in every mode.
-    let grid = Grid::new(nrows, ncols, bands, nbpp, InterleaveMode::B, nppbh, nppbv);
+    // The block counts are the same in every mode and under both rules.
+    let grid = Grid::new(
+        nrows,
+        ncols,
+        bands,
+        nbpp,
+        InterleaveMode::B,
+        EdgeRule::Tight,
+        nppbh,
+        nppbv,
+    );
     GridNumbers {
         nrows,
         ncols,
         bands,
         nbpp,
         imode,
+        edges,
         nppbh,
         nppbv,
         nbpr: grid.nbpr,
@@ -72,9 +90,22 @@ pub fn named_mode(byte: u8) -> NamedMode
     NamedMode::NoMode
 }
 
-// The grid of the numbers in a mode.
-pub fn grid_in(numbers: GridNumbers, imode: InterleaveMode) -> Grid
-    ensures { λ r. ⌜ r ≡ gridIn numbers imode ⌝ }
+// The edge rule's letter.
+pub fn named_rule(byte: u8) -> NamedRule
+    ensures { λ r. ⌜ r ≡ ruleOf byte ⌝ }
+{
+    if byte == b'T' {
+        return NamedRule::Rule(EdgeRule::Tight);
+    }
+    if byte == b'F' {
+        return NamedRule::Rule(EdgeRule::Full);
+    }
+    NamedRule::NoRule
+}
+
+// The grid of the numbers in a mode, under a rule.
+pub fn grid_in(numbers: GridNumbers, imode: InterleaveMode, edges: EdgeRule) -> Grid
+    ensures { λ r. ⌜ r ≡ gridIn numbers imode edges ⌝ }
 {
     Grid {
         nrows: numbers.nrows,
@@ -82,6 +113,7 @@ pub fn grid_in(numbers: GridNumbers, imode: InterleaveMode) -> Grid
         bands: numbers.bands,
         nbpp: numbers.nbpp,
         imode,
+        edges,
         nppbh: numbers.nppbh,
         nppbv: numbers.nppbv,
         nbpr: numbers.nbpr,
@@ -93,7 +125,10 @@ pub fn named_grid(numbers: GridNumbers) -> NamedGrid
     ensures { λ r. ⌜ r ≡ namedGrid numbers ⌝ }
 {
     match named_mode(numbers.imode) {
-        NamedMode::Mode(mode) => NamedGrid::Known(grid_in(numbers, mode)),
+        NamedMode::Mode(mode) => match named_rule(numbers.edges) {
+            NamedRule::Rule(edges) => NamedGrid::Known(grid_in(numbers, mode, edges)),
+            NamedRule::NoRule => NamedGrid::Unknown,
+        },
         NamedMode::NoMode => NamedGrid::Unknown,
     }
 }

@@ -12,9 +12,11 @@ use Rattle.layout.specs.declared.InterleaveMode.{InterleaveMode}
 use Rattle.layout.specs.declared.InterleaveMode.the-variants.{B, P, R, S}
 use Rattle.layout.specs.Order.{ordinal, bandsApart}
 use Rattle.layout.specs.Internal.Layout.{endBy, Sound, place as placeIn, blockEnd as endOf}
+use Rattle.grid.specs.declared.EdgeRule.{EdgeRule}
+use Rattle.grid.specs.declared.EdgeRule.the-variants.{Tight, Full}
 use Rattle.grid.specs.declared.Grid.{Grid}
 use Rattle.grid.specs.Sizes.{sampleBytes, bandBytes, blocks, imageBytes, blockIndex, actualRows, actualColumns, byteMultiple}
-use Rattle.grid.specs.Layout.{sampleByte, runByte, packedRows, packedColumns, placeBy, place, blockEnd, wholeStart, wholeLength, Block, Sample}
+use Rattle.grid.specs.Layout.{sampleByte, runByte, held, packedRows, packedColumns, placeBy, place, blockEnd, wholeStart, wholeLength, Block, Sample}
 use Rattle.grid.specs.Internal.BlockLayouts.{firstByte, runsApart, layoutOf}
 use Rattle.grid.proofs.Accepted.{Facts, index-lt, blocks-pos, rows-pos, columns-pos, rows-le, columns-le, block-end-le}
 
@@ -91,15 +93,20 @@ place-whole P g index b r c e hr hc = whole-block g index _ e
 place-whole R g index b r c e hr hc = whole-block g index _ e
 place-whole S g index b r c e hr hc = whole-bands g index b r c e hr hc
 
+-- under both rules a run holds the actual rows, or columns, and not more than the nominal ones
+held-le : (e : EdgeRule) {actual nominal : ℕ} → actual ≤ nominal → (actual ≤ held e actual nominal) × (held e actual nominal ≤ nominal)
+held-le Tight h = (omega arith, h)
+held-le Full h = (h, omega arith)
+
 pub rows-held : (w : Bool) (g : Grid) (row : ℕ) → actualRows g row ≤ pick w (g .nppbv) (packedRows g row)
 unfolding pick
 rows-held true g row = rows-le g row
-rows-held false g row = omega arith
+rows-held false g row = held-le (g .edges) (rows-le g row) .0
 
 pub columns-held : (w : Bool) (g : Grid) (column : ℕ) → actualColumns g column ≤ pick w (g .nppbh) (packedColumns g column)
 unfolding pick
 columns-held true g column = columns-le g column
-columns-held false g column = omega arith
+columns-held false g column = held-le (g .edges) (columns-le g column) .0
 
 place-by : (w : Bool) (g : Grid) (row column b r c : ℕ) → (w ≡ true → g .nbpp % 8 ≡ 0) → r < actualRows g row → c < actualColumns g column
     → placeBy w g row column b r c
@@ -166,7 +173,8 @@ pub run-fits : (w : Bool) (g : Grid) (row column : ℕ)
 unfolding pick bandBytes
 run-fits true g row column = omega arith
 run-fits false g row column =
-    let a : actualRows g row * actualColumns g column ≤ g .nppbv * g .nppbh = mul-le-mul (rows-le g row) (columns-le g column) in
+    let a : packedRows g row * packedColumns g column ≤ g .nppbv * g .nppbh =
+    mul-le-mul (held-le (g .edges) (rows-le g row) .1) (held-le (g .edges) (columns-le g column) .1) in
     omega (arith, mul-le-mul-right (g .nbpp) a)
 
 -- a block's runs do not meet, and their bytes can be counted

@@ -3,4 +3,5 @@ pub mod Table
 pub mod WidthLaws
 pub mod Accepted
 pub mod BlockLayouts
+pub mod EdgeRules
 pub mod SamplePlaces

@@ -10,6 +10,7 @@ use Rattle.common.specs.Tests.{every, some, within}
 use Rattle.common.specs.Rounding.{ceilDiv}
 use Rattle.grid.specs.Widths.{widthTaken}
 use Rattle.grid.specs.Sizes.{imageBytes}
+use Rattle.grid.specs.declared.EdgeRule.{EdgeRule}
 use Rattle.grid.specs.declared.Grid.{Grid}
 use Rattle.layout.specs.declared.InterleaveMode.{InterleaveMode}
 
@@ -67,14 +68,15 @@ abbrev pub Accepted : Grid → Type 0
 Accepted g = gridNumber g ≡ 0
 
 -- the grid of a picture in blocks of NPPBV rows and NPPBH columns
-abbrev pub gridOf : ℕ → ℕ → ℕ → ℕ → InterleaveMode → ℕ → ℕ → Grid
-gridOf nrows ncols bands nbpp imode nppbh nppbv =
+abbrev pub gridOf : ℕ → ℕ → ℕ → ℕ → InterleaveMode → EdgeRule → ℕ → ℕ → Grid
+gridOf nrows ncols bands nbpp imode edges nppbh nppbv =
     record {
       nrows = nrows;
       ncols = ncols;
       bands = bands;
       nbpp = nbpp;
       imode = imode;
+      edges = edges;
       nppbh = nppbh;
       nppbv = nppbv;
       nbpr = ceilDiv ncols nppbh;

@@ -6,6 +6,8 @@ use Rattle.common.specs.Tests.{pick}
 use Rattle.layout.specs.declared.InterleaveMode.{InterleaveMode}
 use Rattle.layout.specs.Order.{ordinal, bandsApart}
 use Rattle.grid.specs.Sizes.{sampleBytes, bandBytes, blocks, blockIndex, actualRows, actualColumns, byteMultiple}
+use Rattle.grid.specs.declared.EdgeRule.{EdgeRule}
+use Rattle.grid.specs.declared.EdgeRule.the-variants.{Tight, Full}
 use Rattle.grid.specs.declared.Grid.{Grid}
 
 -- byte multiples: the first byte of a sample of the block at an index. In B, P and R the block starts at index × bands
@@ -16,21 +18,26 @@ sampleByte m g index b r c =
     ((b * blocks g + index) * bandBytes g + (r * g .nppbh + c) * sampleBytes g)
     (index * g .bands * bandBytes g + sampleBytes g * ordinal m (g .bands) (g .nppbv) (g .nppbh) b r c)
 
--- a run, document 01's term at other widths: the block's actual samples stand in the order of the mode and are cut into
--- as many runs as bands,
--- each of actual rows × actual columns samples. This is the first byte of run i of the block at an index
+-- a run, document 01's term at other widths: the samples that a block holds stand in the order of the mode and are cut
+-- into as many runs as bands. This is the first byte of run i of the block at an index
 abbrev pub runByte : InterleaveMode → Grid → ℕ → ℕ → ℕ
 runByte m g index i =
     pick (bandsApart m)
     ((i * blocks g + index) * bandBytes g)
     (index * g .bands * bandBytes g + i * bandBytes g)
 
--- other widths: the rows and columns of a block that its runs hold, which are the actual ones
+-- the edge rule, document 02's term, at other widths: of so many actual and so many nominal rows, or columns, a block's
+-- runs hold the actual ones under tight, and all the nominal ones under full
+abbrev pub held : EdgeRule → ℕ → ℕ → ℕ
+held Tight actual nominal = actual
+held Full actual nominal = nominal
+
+-- other widths: the rows and columns of a block that its runs hold
 abbrev pub packedRows : Grid → ℕ → ℕ
-packedRows g row = actualRows g row
+packedRows g row = held (g .edges) (actualRows g row) (g .nppbv)
 
 abbrev pub packedColumns : Grid → ℕ → ℕ
-packedColumns g column = actualColumns g column
+packedColumns g column = held (g .edges) (actualColumns g column) (g .nppbh)
 
 -- the first bit of sample (b, r, c) of block (row, column); bits are counted from the image's first byte on, high bit
 -- first.

@@ -1,7 +1,9 @@
 // Questions 1 to 4.
 ghost use mathlib.Core.Path.{_≡_};
 ghost use mathlib.Core.Bool.{true};
+ghost use Rattle.grid.specs.declared.EdgeRule.the-variants.{Tight};
 ghost use Rattle.grid.specs.Check.{blockSide, q1, q2, q3, q4, q6, q11, gridNumber, Accepted, gridOf};
+use crate::EdgeRule;
 use crate::Grid;
 use crate::widths::width_bytes;
 use common::ceil_div;
@@ -38,10 +40,11 @@ impl Grid {
         bands: u32,
         nbpp: u32,
         imode: InterleaveMode,
+        edges: EdgeRule,
         nppbh: u32,
         nppbv: u32,
     ) -> Self
-        ensures { λ g. ⌜ g ≡ gridOf nrows ncols bands nbpp imode nppbh nppbv ⌝ }
+        ensures { λ g. ⌜ g ≡ gridOf nrows ncols bands nbpp imode edges nppbh nppbv ⌝ }
     {
         let nbpr = ceil_div(ncols, nppbh);
         let nbpc = ceil_div(nrows, nppbv);
@@ -51,6 +54,7 @@ impl Grid {
             bands,
             nbpp,
             imode,
+            edges,
             nppbh,
             nppbv,
             nbpr,
@@ -58,11 +62,20 @@ impl Grid {
         }
     }
 
-    // A picture that is one block.
+    // A picture that is one block; it lies the same under both edge rules.
     pub fn one_block(nrows: u32, ncols: u32, bands: u32, nbpp: u32, imode: InterleaveMode) -> Self
-        ensures { λ g. ⌜ g ≡ gridOf nrows ncols bands nbpp imode ncols nrows ⌝ }
+        ensures { λ g. ⌜ g ≡ gridOf nrows ncols bands nbpp imode Tight ncols nrows ⌝ }
     {
-        Self::new(nrows, ncols, bands, nbpp, imode, ncols, nrows)
+        Self::new(
+            nrows,
+            ncols,
+            bands,
+            nbpp,
+            imode,
+            EdgeRule::Tight,
+            ncols,
+            nrows,
+        )
     }
 
     // Question 1.

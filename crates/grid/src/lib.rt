@@ -8,6 +8,14 @@ mod widths;
 
 use layout::InterleaveMode;
 
+// How the runs of an edge block lie where NBPP is no multiple of 8. Byte multiples lie the same under both rules.
+pub enum EdgeRule {
+    // Its actual rows and columns, without gaps.
+    Tight,
+    // The rows and columns of a full block, zeros outside the picture.
+    Full,
+}
+
 // What a call is told of a picture.
 pub struct Grid {
     // Rows and columns of the picture.
@@ -17,6 +25,7 @@ pub struct Grid {
     // Bits per sample.
     pub nbpp: u32,
     pub imode: InterleaveMode,
+    pub edges: EdgeRule,
     // Columns and rows of a block.
     pub nppbh: u32,
     pub nppbv: u32,

@@ -1,8 +1,9 @@
 // Where a block and a sample lie in the image.
 ghost use mathlib.Core.Path.{_≡_};
 ghost use Rattle.grid.specs.Check.{Accepted};
-ghost use Rattle.grid.specs.Layout.{place, blockEnd, Block, Sample};
+ghost use Rattle.grid.specs.Layout.{held as heldBy, place, blockEnd, Block, Sample};
 ghost use Rattle.grid.specs.Internal.BlockLayouts.{layoutOf, wholeSpan};
+use crate::EdgeRule;
 use crate::Grid;
 use common::pick;
 use layout::BlockLayout;
@@ -14,6 +15,17 @@ pub struct Span {
     pub length: usize,
 }
 
+// Of so many actual and so many nominal rows, or columns, those that a block's runs hold at widths that are no byte
+// multiples.
+fn held(edges: EdgeRule, actual: usize, nominal: usize) -> usize
+    ensures { λ r. ⌜ r ≡ heldBy edges actual nominal ⌝ }
+{
+    match edges {
+        EdgeRule::Tight => actual,
+        EdgeRule::Full => nominal,
+    }
+}
+
 impl Grid {
     // The layout of block (row, column) of the image.
     pub fn block_layout(self, row: usize, column: usize) -> BlockLayout
@@ -23,14 +35,17 @@ impl Grid {
     {
         let t = self.band_bytes();
         let mode = self.imode;
+        let edges = self.edges;
         let apart = bands_apart(mode);
         let whole = self.is_byte_multiple();
         let rows = self.actual_rows(row);
         let columns = self.actual_columns(column);
         let first = self.block_index(row, column) * pick(apart, t, self.block_bytes());
         let next = pick(apart, self.blocks() * t, t);
-        let run_rows = pick(whole, self.nppbv as usize, rows);
-        let run_columns = pick(whole, self.nppbh as usize, columns);
+        let block_rows = self.nppbv as usize;
+        let block_columns = self.nppbh as usize;
+        let run_rows = pick(whole, block_rows, held(edges, rows, block_rows));
+        let run_columns = pick(whole, block_columns, held(edges, columns, block_columns));
         BlockLayout {
             first,
             apart: next,

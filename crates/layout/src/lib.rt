@@ -181,8 +181,8 @@ impl BlockLayout {
         requires { ⌜ Sample self b r c ⌝ }
         ensures { λ n. ⌜ n ≡ restOfRun self b r c ⌝ }
     {
-        let size = self.run_rows * self.run_columns;
-        let rest = size - self.sample_ordinal(b, r, c) % size;
+        let samples = self.run_rows * self.run_columns;
+        let rest = samples - self.sample_ordinal(b, r, c) % samples;
         let steps = self.column_steps();
         (rest + (steps - 1)) / steps
     }

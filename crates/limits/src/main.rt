@@ -1,4 +1,5 @@
 // Grids at every limit of questions 1 to 4, and the figures without a letter: prints what the check answers.
+use grid::EdgeRule;
 use grid::Grid;
 use layout::InterleaveMode;
 
@@ -14,20 +15,44 @@ fn answer(label: &[u8], g: Grid) {
     number(label, g.check() as u64);
 }
 
+// The limits are the same under both edge rules.
+fn grid_of(
+    nrows: u32,
+    ncols: u32,
+    bands: u32,
+    nbpp: u32,
+    imode: InterleaveMode,
+    nppbh: u32,
+    nppbv: u32,
+) -> Grid {
+    Grid::new(
+        nrows,
+        ncols,
+        bands,
+        nbpp,
+        imode,
+        EdgeRule::Tight,
+        nppbh,
+        nppbv,
+    )
+}
+
 // The grid of the figures, at another width.
 fn figure(nbpp: u32) -> Grid {
-    Grid::new(3, 5, 2, nbpp, InterleaveMode::B, 4, 2)
+    grid_of(3, 5, 2, nbpp, InterleaveMode::B, 4, 2)
 }
 
 // The same grid with other counts of blocks.
 fn with_blocks(g: Grid, nbpr: u32, nbpc: u32) -> Grid {
     let imode = g.imode;
+    let edges = g.edges;
     Grid {
         nrows: g.nrows,
         ncols: g.ncols,
         bands: g.bands,
         nbpp: g.nbpp,
         imode,
+        edges,
         nppbh: g.nppbh,
         nppbv: g.nppbv,
         nbpr,
@@ -37,12 +62,12 @@ fn with_blocks(g: Grid, nbpr: u32, nbpc: u32) -> Grid {
 
 // One row of blocks of one pixel, with its count of blocks given.
 fn across(nbpr: u32, ncols: u32) -> Grid {
-    with_blocks(Grid::new(1, ncols, 1, 8, InterleaveMode::P, 1, 1), nbpr, 1)
+    with_blocks(grid_of(1, ncols, 1, 8, InterleaveMode::P, 1, 1), nbpr, 1)
 }
 
 // One column of blocks of one pixel, with its count of blocks given.
 fn down(nbpc: u32, nrows: u32) -> Grid {
-    with_blocks(Grid::new(nrows, 1, 1, 8, InterleaveMode::R, 1, 1), 1, nbpc)
+    with_blocks(grid_of(nrows, 1, 1, 8, InterleaveMode::R, 1, 1), 1, nbpc)
 }
 
 fn figures() {
@@ -75,26 +100,26 @@ fn widths() {
 
 fn sides() {
     let b = InterleaveMode::B;
-    answer(b"NROWS 0: ", Grid::new(0, 5, 1, 8, b, 4, 2));
+    answer(b"NROWS 0: ", grid_of(0, 5, 1, 8, b, 4, 2));
     answer(
         b"NROWS 99999999: ",
-        Grid::new(99_999_999, 1, 1, 1, b, 1, 8_192),
+        grid_of(99_999_999, 1, 1, 1, b, 1, 8_192),
     );
     answer(
         b"NROWS 100000000: ",
-        Grid::new(100_000_000, 1, 1, 1, b, 1, 8_192),
+        grid_of(100_000_000, 1, 1, 1, b, 1, 8_192),
     );
     answer(
         b"NCOLS 4294967295: ",
-        Grid::new(1, 4_294_967_295, 1, 1, b, 8_192, 1),
+        grid_of(1, 4_294_967_295, 1, 1, b, 8_192, 1),
     );
-    answer(b"NPPBH 0: ", Grid::new(3, 5, 1, 8, b, 0, 2));
-    answer(b"NPPBH 8192: ", Grid::new(3, 5, 1, 8, b, 8_192, 2));
-    answer(b"NPPBH 8193: ", Grid::new(3, 5, 1, 8, b, 8_193, 2));
-    answer(b"NPPBV 8193: ", Grid::new(3, 5, 1, 8, b, 4, 8_193));
-    answer(b"bands 0: ", Grid::new(3, 5, 0, 8, b, 4, 2));
-    answer(b"bands 99999: ", Grid::new(3, 5, 99_999, 8, b, 4, 2));
-    answer(b"bands 100000: ", Grid::new(3, 5, 100_000, 8, b, 4, 2));
+    answer(b"NPPBH 0: ", grid_of(3, 5, 1, 8, b, 0, 2));
+    answer(b"NPPBH 8192: ", grid_of(3, 5, 1, 8, b, 8_192, 2));
+    answer(b"NPPBH 8193: ", grid_of(3, 5, 1, 8, b, 8_193, 2));
+    answer(b"NPPBV 8193: ", grid_of(3, 5, 1, 8, b, 4, 8_193));
+    answer(b"bands 0: ", grid_of(3, 5, 0, 8, b, 4, 2));
+    answer(b"bands 99999: ", grid_of(3, 5, 99_999, 8, b, 4, 2));
+    answer(b"bands 100000: ", grid_of(3, 5, 100_000, 8, b, 4, 2));
 }
 
 // A block may be above 8,192 columns where it is as wide as the picture.
@@ -102,19 +127,19 @@ fn wide_blocks() {
     let b = InterleaveMode::B;
     answer(
         b"NCOLS 8193, NPPBH 8193: ",
-        Grid::new(3, 8_193, 1, 8, b, 8_193, 2),
+        grid_of(3, 8_193, 1, 8, b, 8_193, 2),
     );
     answer(
         b"NCOLS 8194, NPPBH 8193: ",
-        Grid::new(3, 8_194, 1, 8, b, 8_193, 2),
+        grid_of(3, 8_194, 1, 8, b, 8_193, 2),
     );
     answer(
         b"NROWS 8193, NPPBH 8193: ",
-        Grid::new(8_193, 5, 1, 8, b, 8_193, 2),
+        grid_of(8_193, 5, 1, 8, b, 8_193, 2),
     );
-    let wide = Grid::new(3, 9_000, 1, 8, b, 9_000, 2);
+    let wide = grid_of(3, 9_000, 1, 8, b, 9_000, 2);
     answer(b"NCOLS 9000, NPPBH 9000, NBPR 2: ", with_blocks(wide, 2, 2));
-    answer(b"NCOLS 0, NPPBH 0: ", Grid::new(3, 0, 1, 8, b, 0, 2));
+    answer(b"NCOLS 0, NPPBH 0: ", grid_of(3, 0, 1, 8, b, 0, 2));
     answer(
         b"NCOLS 99999999, NPPBH 99999999: ",
         Grid::one_block(1, 99_999_999, 1, 8, b),
@@ -130,19 +155,19 @@ fn high_blocks() {
     let b = InterleaveMode::B;
     answer(
         b"NROWS 8193, NPPBV 8193: ",
-        Grid::new(8_193, 5, 1, 8, b, 4, 8_193),
+        grid_of(8_193, 5, 1, 8, b, 4, 8_193),
     );
     answer(
         b"NROWS 8194, NPPBV 8193: ",
-        Grid::new(8_194, 5, 1, 8, b, 4, 8_193),
+        grid_of(8_194, 5, 1, 8, b, 4, 8_193),
     );
     answer(
         b"NCOLS 8193, NPPBV 8193: ",
-        Grid::new(3, 8_193, 1, 8, b, 4, 8_193),
+        grid_of(3, 8_193, 1, 8, b, 4, 8_193),
     );
-    let high = Grid::new(9_000, 5, 1, 8, b, 4, 9_000);
+    let high = grid_of(9_000, 5, 1, 8, b, 4, 9_000);
     answer(b"NROWS 9000, NPPBV 9000, NBPC 2: ", with_blocks(high, 2, 2));
-    answer(b"NROWS 0, NPPBV 0: ", Grid::new(0, 5, 1, 8, b, 4, 0));
+    answer(b"NROWS 0, NPPBV 0: ", grid_of(0, 5, 1, 8, b, 4, 0));
     answer(
         b"NROWS 99999999, NPPBV 99999999: ",
         Grid::one_block(99_999_999, 1, 1, 8, b),
@@ -168,23 +193,23 @@ fn images() {
     let s = InterleaveMode::S;
     answer(
         b"image of 4294967293 bytes: ",
-        Grid::new(1_143, 30_060_973, 1, 1, s, 3_253, 1_143),
+        grid_of(1_143, 30_060_973, 1, 1, s, 3_253, 1_143),
     );
     answer(
         b"image of 4294967295 bytes: ",
-        Grid::new(255, 257, 65_537, 8, s, 1, 1),
+        grid_of(255, 257, 65_537, 8, s, 1, 1),
     );
     answer(
         b"image of 4294967296 bytes: ",
-        Grid::new(256, 256, 65_536, 8, s, 1, 1),
+        grid_of(256, 256, 65_536, 8, s, 1, 1),
     );
     answer(
         b"image of 2 to the 64 bytes: ",
-        Grid::new(16_777_216, 16_777_216, 65_536, 8, s, 2_048, 2_048),
+        grid_of(16_777_216, 16_777_216, 65_536, 8, s, 2_048, 2_048),
     );
     answer(
         b"largest product: ",
-        Grid::new(81_911_808, 81_911_808, 99_999, 64, s, 8_192, 8_192),
+        grid_of(81_911_808, 81_911_808, 99_999, 64, s, 8_192, 8_192),
     );
 }
 

@@ -1,5 +1,6 @@
 // Mask tables at their limits: sizes that would wrap in 32 bits, the largest table that question 21 accepts, the
 // smallest that it refuses.
+use grid::EdgeRule;
 use grid::Grid;
 use layout::InterleaveMode;
 use mask::ImageDataMask;
@@ -14,7 +15,16 @@ fn number(label: &[u8], n: u64) {
 
 // Mode S, blocks of one byte: one record a block and band.
 fn sequential(nbpr: u32, nbpc: u32, bands: u32) -> Grid {
-    Grid::new(nbpc, nbpr, bands, 8, InterleaveMode::S, 1, 1)
+    Grid::new(
+        nbpc,
+        nbpr,
+        bands,
+        8,
+        InterleaveMode::S,
+        EdgeRule::Tight,
+        1,
+        1,
+    )
 }
 
 fn header(block: u16, pad: u16, bits: u16, code: u32) -> ImageDataMask {

@@ -51,9 +51,9 @@ fn print_counts(counts: &[u64]) {
     print_count(b"differences ", counts, DIFFERENCES);
 }
 
-// Six lists for each width in each mode.
+// Six lists for each width in each mode under each edge rule.
 fn run_lists(seed: &mut u64, counts: &mut [u64]) {
-    for list in 0..696 {
+    for list in 0..1_392 {
         run_list(seed, list, counts);
     }
 }

@@ -6,18 +6,20 @@ use crate::numbers::product;
 use crate::numbers::small;
 use crate::numbers::sum;
 use crate::random::below;
+use grid::EdgeRule;
 use grid::Grid;
 use layout::InterleaveMode;
 
 // The fields of the grid; then the blocks across and down, the bytes of a sample, of a band of a block and of the
 // image.
-// The modes B, P, R, S are 0 to 3.
+// The modes B, P, R, S are 0 to 3, the edge rules tight and full 0 and 1.
 pub struct Picture {
     pub nrows: u64,
     pub ncols: u64,
     pub bands: u64,
     pub nbpp: u64,
     pub mode: u64,
+    pub rule: u64,
     pub nppbh: u64,
     pub nppbv: u64,
     pub across: u64,
@@ -76,6 +78,7 @@ fn picture_of(
     bands: u64,
     nbpp: u64,
     mode: u64,
+    rule: u64,
     nppbh: u64,
     nppbv: u64,
 ) -> Picture {
@@ -88,6 +91,7 @@ fn picture_of(
         bands,
         nbpp,
         mode,
+        rule,
         nppbh,
         nppbv,
         across,
@@ -98,8 +102,8 @@ fn picture_of(
     }
 }
 
-// A picture of at most 12 rows and columns and 3 bands. The width and the mode go by the number of the list, so that
-// 116 lists have each width in each mode.
+// A picture of at most 12 rows and columns and 3 bands. The width, the mode and the edge rule go by the number of the
+// list, so that 232 lists have each width in each mode under each rule.
 pub fn some_picture(seed: &mut u64, list: u64) -> Picture {
     let nrows = some_side(seed);
     let ncols = some_side(seed);
@@ -112,6 +116,7 @@ pub fn some_picture(seed: &mut u64, list: u64) -> Picture {
         bands,
         width(list),
         list / 29 % 4,
+        list / 116 % 2,
         nppbh,
         nppbv,
     )
@@ -126,6 +131,13 @@ fn mode_of(mode: u64) -> InterleaveMode {
     }
 }
 
+fn rule_of(rule: u64) -> EdgeRule {
+    match rule {
+        0 => EdgeRule::Tight,
+        _ => EdgeRule::Full,
+    }
+}
+
 pub fn grid_of(p: Picture) -> Grid {
     Grid::new(
         small(p.nrows),
@@ -133,6 +145,7 @@ pub fn grid_of(p: Picture) -> Grid {
         small(p.bands),
         small(p.nbpp),
         mode_of(p.mode),
+        rule_of(p.rule),
         small(p.nppbh),
         small(p.nppbv),
     )

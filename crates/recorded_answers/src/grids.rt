@@ -2,6 +2,7 @@
 use crate::parts::product;
 use crate::parts::sum;
 use crate::parts::word_at;
+use grid::EdgeRule;
 use grid::Grid;
 use layout::InterleaveMode;
 
@@ -23,7 +24,7 @@ pub fn mode_at(data: &[u8], at: usize) -> InterleaveMode {
     }
 }
 
-// The grid that stands at `at`.
+// The grid that stands at `at`; the original has the rule tight.
 pub fn grid_at(data: &[u8], at: usize) -> Grid {
     Grid {
         nrows: word_at(data, at),
@@ -31,6 +32,7 @@ pub fn grid_at(data: &[u8], at: usize) -> Grid {
         bands: word_at(data, sum(at, 8)),
         nbpp: word_at(data, sum(at, 12)),
         imode: mode_at(data, at),
+        edges: EdgeRule::Tight,
         nppbh: word_at(data, sum(at, 20)),
         nppbv: word_at(data, sum(at, 24)),
         nbpr: word_at(data, sum(at, 28)),

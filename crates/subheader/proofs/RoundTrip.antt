@@ -15,8 +15,10 @@ use Rattle.common.specs.Rounding.{ceilDiv}
 use Rattle.common.proofs.Arith.{part-start, ceil-pos}
 use Rattle.common.proofs.Questions.{ask-yes, ask-inv, outcome-yes, outcome-zero}
 use Rattle.layout.specs.declared.InterleaveMode.the-variants.{B}
+use Rattle.grid.specs.declared.EdgeRule.{EdgeRule}
 use Rattle.grid.specs.declared.Grid.{Grid}
-use Rattle.grid.specs.Check.{Accepted, askGrid, gridNumber}
+use Rattle.grid.specs.Sizes.{bandBytes}
+use Rattle.grid.specs.Check.{q1, q3, q4, Accepted, askGrid, gridNumber}
 use Rattle.grid.proofs.Accepted.{Side, block-sides, answered, facts, grid-yes}
 use Rattle.digits.specs.Digits.{areDigits, numberOf, digitBytes}
 use Rattle.digits.proofs.Digits.{length-digitBytes, digits-are, number-of-digits, number-lt}
@@ -34,7 +36,7 @@ use Rattle.fields.specs.Sides.{effective, writtenSide}
 use Rattle.subheader.specs.Subheader.{partsFit, firstNumbers, thirdNumbers, q23, q24}
 use Rattle.subheader.specs.Subheader.{gridOfParts, fieldsIn, readNumber, readAs, readSubheader, writeNumber}
 use Rattle.subheader.specs.Subheader.{q24Write, firstEntries, secondEntries, thirdEntries, PartsOut, writeSubheader}
-use Rattle.subheader.specs.RoundTrip.{Eights, readBack, WrittenReadsBack, ReadWrittenAgain}
+use Rattle.subheader.specs.RoundTrip.{RuleNotWritten, Eights, readBack, WrittenReadsBack, ReadWrittenAgain}
 use Rattle.fields.proofs.Entries.{Fits, Laid, laid-reads, length-putAll, length-bytesIn, bytesIn-front}
 use Rattle.fields.proofs.Values.{pvtype-back, pjust-back, ic-back, imode-back}
 use Rattle.subheader.proofs.Parts.{held, Held, lengths, fit, numbered, ready}
@@ -200,7 +202,7 @@ digits-back : (part : List ℕ) (f : Field) (v : ℕ) → bytesIn part f ≡ dig
 digits-back part f v e = ap areDigits e ∙ digits-are (f .size) v
 
 module _ (s : ImageSubheader) (first second third : List ℕ) (w : Written s first second third) (le : s .abpp ≤ 99) (acc : Accepted (s .grid)) where
-  fields-back : fieldsIn first second third (s .grid .bands) ≡ s
+  fields-back : fieldsIn first second third (s .grid .bands) (s .grid .edges) ≡ s
   fields-back =
       let g = s .grid in
       let f = facts g acc in
@@ -251,11 +253,11 @@ module _ (s : ImageSubheader) (first second third : List ℕ) (w : Written s fir
         ap (isNamed imodeText imodes) (w .imode) ∙ imode-back (s .grid .imode) .0,
       )
 
-  read-back : readSubheader first second third (s .grid .bands) ≡ readAs 0 s
+  read-back : readSubheader first second third (s .grid .bands) (s .grid .edges) ≡ readAs 0 s
   unfolding readSubheader readNumber gridNumber
   read-back =
-      let e : gridOfParts first third (s .grid .bands) ≡ s .grid = ap (λ (x : ImageSubheader). x .grid) fields-back in
-      let n : readNumber first second third (s .grid .bands) ≡ 0 =
+      let e : gridOfParts first third (s .grid .bands) (s .grid .edges) ≡ s .grid = ap (λ (x : ImageSubheader). x .grid) fields-back in
+      let n : readNumber first second third (s .grid .bands) (s .grid .edges) ≡ 0 =
       ask-yes 23 _ parts-back ∙ ask-yes 24 _ named-back ∙ ap (λ (g : Grid). askGrid g 0) e ∙ acc in
       outcome-yes _ _ n ∙ ap (readAs 0) fields-back
 
@@ -271,20 +273,20 @@ written-reads-back s first second third t e =
     let n : writeNumber s (length first) (length second) (length third) ≡ 0 =
     outcome-zero _ _ _ (λ (o : PartsOut). o .number) (λ k. refl) e in
     let h = held s (length first) (length second) (length third) n in
-    ap (λ (o : PartsOut). readBack o (s .grid .bands)) (outcome-yes _ _ n)
+    ap (λ (o : PartsOut). readBack o (s .grid .bands) (s .grid .edges)) (outcome-yes _ _ n)
     ∙ read-back s _ _ _ (written s first second third t h) (h .abpp-le) (h .accepted)
 
 -- a read subheader: its fields, and that they can be written
-record Read (first second third : List ℕ) (bands : ℕ) : Type 0 where
-  is : readSubheader first second third bands ≡ readAs 0 (fieldsIn first second third bands)
-  eights : Eights (fieldsIn first second third bands)
+record Read (first second third : List ℕ) (bands : ℕ) (edges : EdgeRule) : Type 0 where
+  is : readSubheader first second third bands edges ≡ readAs 0 (fieldsIn first second third bands edges)
+  eights : Eights (fieldsIn first second third bands edges)
   abpp-le : numberIn first ABPP ≤ 99
-  accepted : Accepted (gridOfParts first third bands)
+  accepted : Accepted (gridOfParts first third bands edges)
 
-read : (first second third : List ℕ) (bands : ℕ) → readSubheader first second third bands .number ≡ 0 → Read first second third bands
+read : (first second third : List ℕ) (bands : ℕ) (edges : EdgeRule) → readSubheader first second third bands edges .number ≡ 0 → Read first second third bands edges
 unfolding readSubheader readNumber gridNumber
-read first second third bands e =
-    let n : readNumber first second third bands ≡ 0 = outcome-zero _ _ _ (λ (r : ReadSubheader). r .number) (λ k. refl) e in
+read first second third bands edges e =
+    let n : readNumber first second third bands edges ≡ 0 = outcome-zero _ _ _ (λ (r : ReadSubheader). r .number) (λ k. refl) e in
     let a = ask-inv 23 (q23 first second third) _ (lit< tt) n in
     let b = ask-inv 24 (q24 first second third) _ (lit< tt) (a .1) in
     let l = lengths _ _ _ (fit first second third (a .0)) in
@@ -303,10 +305,14 @@ read first second third bands e =
 
 pub read-written-again : ReadWrittenAgain
 unfolding writeNumber q24Write
-read-written-again first second third bands a b c e room =
-    let r = read first second third bands e in
-    let s = fieldsIn first second third bands in
+read-written-again first second third bands edges a b c e room =
+    let r = read first second third bands edges e in
+    let s = fieldsIn first second third bands edges in
     let n : writeNumber s (length a) (length b) (length c) ≡ 0 =
     ask-yes 24 _ (le-leb _ _ (r .abpp-le)) ∙ grid-yes (s .grid) _ (r .accepted) ∙ ask-yes 9 _ room in
     let z : writeSubheader s a b c .number ≡ 0 = write-accepted s a b c n in
     rw (r .is) (z, written-reads-back s a b c (r .eights) z)
+
+pub rule-not-written : RuleNotWritten
+unfolding writeSubheader writeNumber q24Write q1 q3 q4 bandBytes
+rule-not-written e s first second third = refl

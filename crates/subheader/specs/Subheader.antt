@@ -8,6 +8,8 @@ use lib.ListN.{length, replicate}
 use Rattle.common.specs.Questions.{ask, outcome}
 use Rattle.common.specs.Tests.{every}
 use Rattle.layout.specs.declared.InterleaveMode.the-variants.{B}
+use Rattle.grid.specs.declared.EdgeRule.{EdgeRule}
+use Rattle.grid.specs.declared.EdgeRule.the-variants.{Tight}
 use Rattle.grid.specs.declared.Grid.{Grid}
 use Rattle.grid.specs.Check.{askGrid}
 use Rattle.fields.specs.declared.named.PixelValueType.the-variants.{UnsignedInt}
@@ -62,15 +64,16 @@ effectiveNppbh first third = effective (numberIn third NPPBH) (numberIn third NB
 abbrev pub effectiveNppbv : List ℕ → List ℕ → ℕ
 effectiveNppbv first third = effective (numberIn third NPPBV) (numberIn third NBPC) (numberIn first NROWS)
 
--- the grid of the fields and a count of bands
-abbrev pub gridOfParts : List ℕ → List ℕ → ℕ → Grid
-gridOfParts first third bands =
+-- the grid of the fields, a count of bands and an edge rule
+abbrev pub gridOfParts : List ℕ → List ℕ → ℕ → EdgeRule → Grid
+gridOfParts first third bands edges =
     record {
       nrows = numberIn first NROWS;
       ncols = numberIn first NCOLS;
       bands = bands;
       nbpp = numberIn third NBPP;
       imode = valueOf imodeText imodes B (bytesIn third IMODE);
+      edges = edges;
       nppbh = effectiveNppbh first third;
       nppbv = effectiveNppbv first third;
       nbpr = numberIn third NBPR;
@@ -78,8 +81,8 @@ gridOfParts first third bands =
     }
 
 -- all fields
-abbrev pub fieldsIn : List ℕ → List ℕ → List ℕ → ℕ → ImageSubheader
-fieldsIn first second third bands =
+abbrev pub fieldsIn : List ℕ → List ℕ → List ℕ → ℕ → EdgeRule → ImageSubheader
+fieldsIn first second third bands edges =
     record {
       pvtype = valueOf pvtypeText pvtypes UnsignedInt (bytesIn first PVTYPE);
       irep = bytesIn first IREP;
@@ -87,18 +90,29 @@ fieldsIn first second third bands =
       abpp = numberIn first ABPP;
       pjust = valueOf pjustText pjusts Right (bytesIn first PJUST);
       ic = valueOf icText ics NC (bytesIn second IC);
-      grid = gridOfParts first third bands;
+      grid = gridOfParts first third bands edges;
     }
 
 -- 23, 24, then 1, 2, 3, 4
-unfoldable pub readNumber : List ℕ → List ℕ → List ℕ → ℕ → ℕ
-readNumber first second third bands =
-    ask 23 (q23 first second third) (ask 24 (q24 first second third) (askGrid (gridOfParts first third bands) 0))
+unfoldable pub readNumber : List ℕ → List ℕ → List ℕ → ℕ → EdgeRule → ℕ
+readNumber first second third bands edges =
+    ask 23 (q23 first second third) (ask 24 (q24 first second third) (askGrid (gridOfParts first third bands edges) 0))
 
--- what stands beside a refusal: zeros, and of PVTYPE, PJUST, IC and IMODE the first value
+-- what stands beside a refusal: zeros, and of PVTYPE, PJUST, IC, IMODE and the edge rule the first value
 abbrev pub noGrid : Grid
 noGrid =
-    record { nrows = 0; ncols = 0; bands = 0; nbpp = 0; imode = B; nppbh = 0; nppbv = 0; nbpr = 0; nbpc = 0 }
+    record {
+      nrows = 0;
+      ncols = 0;
+      bands = 0;
+      nbpp = 0;
+      imode = B;
+      edges = Tight;
+      nppbh = 0;
+      nppbv = 0;
+      nbpr = 0;
+      nbpc = 0;
+    }
 
 abbrev pub noSubheader : ImageSubheader
 noSubheader =
@@ -116,10 +130,10 @@ abbrev pub readAs : ℕ → ImageSubheader → ReadSubheader
 readAs n subheader = record { number = n; subheader = subheader }
 
 -- the reader
-unfoldable pub readSubheader : List ℕ → List ℕ → List ℕ → ℕ → ReadSubheader
-readSubheader first second third bands =
-    outcome (readNumber first second third bands)
-    (readAs 0 (fieldsIn first second third bands))
+unfoldable pub readSubheader : List ℕ → List ℕ → List ℕ → ℕ → EdgeRule → ReadSubheader
+readSubheader first second third bands edges =
+    outcome (readNumber first second third bands edges)
+    (readAs 0 (fieldsIn first second third bands edges))
     (λ n. readAs n noSubheader)
 
 -- ---- writing

@@ -15,6 +15,7 @@ use fields::named::PixelValueType;
 use fields::named::mode_from_bytes;
 use fields::named::mode_is_named;
 use fields::sides::effective_side;
+use grid::EdgeRule;
 use grid::Grid;
 use layout::InterleaveMode;
 
@@ -127,10 +128,10 @@ pub fn effective_nppbv(first: &[u8], third: &[u8]) -> u32
     effective_side(nppbv, nbpc, Field::NROWS.number_in(first))
 }
 
-// The grid of the fields, with so many bands.
-fn grid_of_parts(first: &[u8], third: &[u8], bands: u32) -> Grid
+// The grid of the fields, with so many bands and an edge rule.
+fn grid_of_parts(first: &[u8], third: &[u8], bands: u32, edges: EdgeRule) -> Grid
     requires { ⌜ Numbered (now first) (now third) ⌝ }
-    ensures { λ r. ⌜ r ≡ gridOfParts (now (first .entry)) (now (third .entry)) bands ⌝ }
+    ensures { λ r. ⌜ r ≡ gridOfParts (now (first .entry)) (now (third .entry)) bands edges ⌝ }
 {
     Grid {
         nrows: Field::NROWS.number_in(first),
@@ -138,6 +139,7 @@ fn grid_of_parts(first: &[u8], third: &[u8], bands: u32) -> Grid
         bands,
         nbpp: Field::NBPP.number_in(third),
         imode: mode_from_bytes(Field::IMODE.bytes_in(third)),
+        edges,
         nppbh: effective_nppbh(first, third),
         nppbv: effective_nppbv(first, third),
         nbpr: Field::NBPR.number_in(third),
@@ -146,9 +148,15 @@ fn grid_of_parts(first: &[u8], third: &[u8], bands: u32) -> Grid
 }
 
 // All fields.
-fn fields_in(first: &[u8], second: &[u8], third: &[u8], bands: u32) -> ImageSubheader
+fn fields_in(
+    first: &[u8],
+    second: &[u8],
+    third: &[u8],
+    bands: u32,
+    edges: EdgeRule,
+) -> ImageSubheader
     requires { ⌜ q23 (now first) (now second) (now third) ≡ true ⌝ }
-    ensures { λ r. ⌜ r ≡ fieldsIn (now (first .entry)) (now (second .entry)) (now (third .entry)) bands ⌝ }
+    ensures { λ r. ⌜ r ≡ fieldsIn (now (first .entry)) (now (second .entry)) (now (third .entry)) bands edges ⌝ }
 {
     ImageSubheader {
         pvtype: PixelValueType::from_bytes(Field::PVTYPE.bytes_in(first)),
@@ -157,7 +165,7 @@ fn fields_in(first: &[u8], second: &[u8], third: &[u8], bands: u32) -> ImageSubh
         abpp: Field::ABPP.number_in(first),
         pjust: PixelJustification::from_bytes(Field::PJUST.bytes_in(first)),
         ic: ImageCompression::from_bytes(Field::IC.bytes_in(second)),
-        grid: grid_of_parts(first, third, bands),
+        grid: grid_of_parts(first, third, bands, edges),
     }
 }
 
@@ -179,6 +187,7 @@ impl ImageSubheader {
                 bands: 0,
                 nbpp: 0,
                 imode: InterleaveMode::B,
+                edges: EdgeRule::Tight,
                 nppbh: 0,
                 nppbv: 0,
                 nbpr: 0,
@@ -196,10 +205,16 @@ impl ImageSubheader {
         }
     }
 
-    // Reads the three parts, for a picture of so many bands.
-    pub fn read(first: &[u8], second: &[u8], third: &[u8], bands: u32) -> ReadSubheader
+    // Reads the three parts, for a picture of so many bands with an edge rule; the parts hold neither.
+    pub fn read(
+        first: &[u8],
+        second: &[u8],
+        third: &[u8],
+        bands: u32,
+        edges: EdgeRule,
+    ) -> ReadSubheader
         ensures { λ r. ⌜ r
-            ≡ readSubheader (now (first .entry)) (now (second .entry)) (now (third .entry)) bands ⌝ }
+            ≡ readSubheader (now (first .entry)) (now (second .entry)) (now (third .entry)) bands edges ⌝ }
     {
         if !are_parts(first, second, third) {
             return Self::refused(23);
@@ -207,7 +222,7 @@ impl ImageSubheader {
         if !are_named(first, second, third) {
             return Self::refused(24);
         }
-        let subheader = fields_in(first, second, third, bands);
+        let subheader = fields_in(first, second, third, bands, edges);
         let number = subheader.grid.check();
         if number != 0 {
             return Self::refused(number);

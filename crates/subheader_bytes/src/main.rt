@@ -10,6 +10,7 @@ use crate::print::print_number;
 use crate::print::print_run;
 use crate::print::print_text;
 use crate::print::with_value;
+use grid::EdgeRule;
 use subheader::ImageSubheader;
 
 // Where the second and the third part start in a set. After the third stands a byte that ends one that is too long.
@@ -37,6 +38,7 @@ fn answer(set: &[u8], first: usize, second: usize, third: usize, bands: u32) -> 
         part(set, SECOND, second),
         part(set, THIRD, third),
         bands,
+        EdgeRule::Tight,
     ).number
 }
 

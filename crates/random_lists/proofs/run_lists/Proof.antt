@@ -9,10 +9,10 @@ use Rattle.random_lists.proofs.run_lists.Statement.{statement}
 use Rattle.random_lists.proofs.run_lists.Tie as tie
 
 abbrev Inv-loop : tie.InvT-loop
-Inv-loop seed₀ counts₀ list₀ seed counts list = (list ≤ 696) × (length counts ≡ length counts₀)
+Inv-loop seed₀ counts₀ list₀ seed counts list = (list ≤ 1_392) × (length counts ≡ length counts₀)
 
 abbrev μ-loop : tie.MeasureT-loop
-μ-loop seed₀ counts₀ list₀ seed counts list = 696 - list
+μ-loop seed₀ counts₀ list₀ seed counts list = 1_392 - list
 
 loop-holds : tie.Need-loop-holds Inv-loop μ-loop
 loop-holds c = search needs

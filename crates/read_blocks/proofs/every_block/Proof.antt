@@ -7,10 +7,10 @@ use Rattle.read_blocks.proofs.every_block.Statement.{statement}
 use Rattle.read_blocks.proofs.every_block.Tie as tie
 
 abbrev Inv-loop : tie.InvT-loop
-Inv-loop image i width k₀ k = k ≤ 4
+Inv-loop image edges i width k₀ k = k ≤ 4
 
 abbrev μ-loop : tie.MeasureT-loop
-μ-loop image i width k₀ k = 4 - k
+μ-loop image edges i width k₀ k = 4 - k
 
 loop-holds : tie.Need-loop-holds Inv-loop μ-loop
 loop-holds c = omega arith

@@ -7,10 +7,10 @@ use Rattle.read_blocks.proofs.every_mode.Statement.{statement}
 use Rattle.read_blocks.proofs.every_mode.Tie as tie
 
 abbrev Inv-loop : tie.InvT-loop
-Inv-loop image width i₀ i = i ≤ 4
+Inv-loop image edges width i₀ i = i ≤ 4
 
 abbrev μ-loop : tie.MeasureT-loop
-μ-loop image width i₀ i = 4 - i
+μ-loop image edges width i₀ i = 4 - i
 
 loop-holds : tie.Need-loop-holds Inv-loop μ-loop
 loop-holds c = omega arith

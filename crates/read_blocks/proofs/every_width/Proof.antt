@@ -7,10 +7,10 @@ use Rattle.read_blocks.proofs.every_width.Statement.{statement}
 use Rattle.read_blocks.proofs.every_width.Tie as tie
 
 abbrev Inv-loop : tie.InvT-loop
-Inv-loop image k₀ k = k ≤ 11
+Inv-loop image edges k₀ k = k ≤ 11
 
 abbrev μ-loop : tie.MeasureT-loop
-μ-loop image k₀ k = 11 - k
+μ-loop image edges k₀ k = 11 - k
 
 loop-holds : tie.Need-loop-holds Inv-loop μ-loop
 loop-holds c = omega arith

@@ -1,39 +1,18 @@
 -- `gezdunar::subheaders::gezdunar_subheader_read` meets its contract.
 -- Assumes nothing.
-use borrow.Author.Needs.{needs}
-use mathlib.Core.Path.{refl, ap, sym, _∙_}
-use Rattle.common.proofs.Questions.{outcome-yes, refused-by}
-use Rattle.gezdunar.specs.declared.SubheaderAnswer.{SubheaderAnswer}
-use Rattle.gezdunar.specs.declared.SubheaderBytes.{SubheaderBytes}
+use mathlib.Core.Path.{ap, _∙_}
 use Rattle.gezdunar.specs.Subheaders.{answerOf}
+use Rattle.gezdunar.proofs.Named.{named}
 use Rattle.gezdunar.proofs.subheaders.gezdunar_subheader_read.Statement.{statement}
 use Rattle.gezdunar.proofs.subheaders.gezdunar_subheader_read.Tie as tie
 
--- an accepted answer
-abbrev accepted : SubheaderBytes → SubheaderAnswer
-accepted b = record { number = 0; subheader = b }
-
-read-requires : tie.Need-read-requires
-read-requires c κs = search needs
-
-no-bytes-requires : tie.Need-no-bytes-requires
-no-bytes-requires c κs = search needs
-
 returns : tie.Need-returns
-unfolding answerOf
 returns c =
-    let read = c .before .before .before in
-    c .no-bytes .ensures ∙ refused-by _ _ refl (c .before .if1 .taken) ∙ ap answerOf (read .read .ensures)
-
-bytes-of-requires : tie.Need-bytes-of-requires
-bytes-of-requires c κs = search needs
-
-returns-2 : tie.Need-returns-2
-unfolding answerOf
-returns-2 c =
-    let read = c .before .before .before in
-    ap accepted (c .bytes-of .ensures) ∙ sym (outcome-yes _ _ (c .before .if1 .left)) ∙ ap answerOf (read .read .ensures)
+    let h = c .answer-of .ensures ∙ ap answerOf (c .before .read .ensures) in
+    search named
 
 pub gezdunar-subheader-read-spec : {M : Type 1} → statement M
 gezdunar-subheader-read-spec =
-    tie.close (tie.spec read-requires no-bytes-requires returns bytes-of-requires returns-2)
+    tie.close
+    (tie.spec (λ c κs. search named) (λ c. search named) (λ c κs. search named) (λ c κs. search named) (λ c. search named)
+    (λ c κs. search named) returns (λ c. search named))

@@ -76,21 +76,28 @@ mul-pick c =
 pick-requires-2 : tie.Need-pick-requires-2
 pick-requires-2 c κs = search needs
 
-cast-pick : tie.Need-cast-pick
-cast-pick c = search needs
+cast-block-rows : tie.Need-cast-block-rows
+cast-block-rows c = search needs
+
+cast-block-columns : tie.Need-cast-block-columns
+cast-block-columns c = search needs
+
+held-requires : tie.Need-held-requires
+held-requires c κs = search needs
 
 pick-requires-3 : tie.Need-pick-requires-3
 pick-requires-3 c κs = search needs
 
-cast-pick-2 : tie.Need-cast-pick-2
-cast-pick-2 c = search needs
+held-requires-2 : tie.Need-held-requires-2
+held-requires-2 c κs = search needs
 
 pick-requires-4 : tie.Need-pick-requires-4
 pick-requires-4 c κs = search needs
 
 returns : tie.Need-returns
 returns c =
-    let n = c .before .before .before .before in
+    let h = c .before .before .before in
+    let n = h .before .before .before in
     let p = n .before .before in
     let r = p .before .before .before in
     let w = r .before .before in
@@ -98,7 +105,9 @@ returns c =
     rw (
       first-is p,
       c .pick4 .ensures,
+      c .before .held2 .ensures,
       c .before .before .pick3 .ensures,
+      h .held .ensures,
       n .pick2 .ensures,
       n .before .blocks2 .ensures,
       r .actual-columns .ensures,
@@ -124,8 +133,10 @@ block-layout-spec =
     blocks-requires
     mul-pick
     pick-requires-2
-    cast-pick
+    cast-block-rows
+    cast-block-columns
+    held-requires
     pick-requires-3
-    cast-pick-2
+    held-requires-2
     pick-requires-4
     returns)

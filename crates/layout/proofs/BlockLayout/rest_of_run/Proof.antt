@@ -18,8 +18,8 @@ some c =
     let s = c .before .before .before in
     rw (c .column-steps .ensures) (steps-pos (s .args .self .mode) (s .args .self) (s .pre .0 .some-bands))
 
-mul-size : tie.Need-mul-size
-mul-size c = omega (arith, sizes _ (c .before .pre .0) .run-le)
+mul-samples : tie.Need-mul-samples
+mul-samples c = omega (arith, sizes _ (c .before .pre .0) .run-le)
 
 sample-ordinal-requires : tie.Need-sample-ordinal-requires
 sample-ordinal-requires c κs = let s = c .before in let k = known s in ((s .pre .1 .in-b, k .r-lt, k .c-lt), omega (arith, sizes _ (s .pre .0) .block-le))
@@ -53,7 +53,7 @@ pub rest-of-run-spec : {M : Type 1} → statement M
 rest-of-run-spec =
     tie.close
     (tie.spec
-    mul-size
+    mul-samples
     sample-ordinal-requires
     rem-rest
     sub-rest

@@ -29,7 +29,7 @@ named c = yes (c .before .are-named .ensures) (c .if2 .left)
 -- so the grid's questions decide
 number-is : (c : tie.After-check)
     → let a = c .before .before .before .before .before .before .before .before .before .args in
-    c .check .result ≡ readNumber (now (a .first)) (now (a .second)) (now (a .third)) (a .bands)
+    c .check .result ≡ readNumber (now (a .first)) (now (a .second)) (now (a .third)) (a .bands) (a .edges)
 unfolding readNumber gridNumber
 number-is c =
     let second = c .before .before in
