@@ -17,7 +17,7 @@ extern "C" {
 
 /* The version of this header. It belongs to an archive whose gezdunar_version() answers GEZDUNAR_VERSION. */
 #define GEZDUNAR_VERSION_MAJOR 0
-#define GEZDUNAR_VERSION_MINOR 4
+#define GEZDUNAR_VERSION_MINOR 5
 #define GEZDUNAR_VERSION_PATCH 0
 #define GEZDUNAR_VERSION (GEZDUNAR_VERSION_MAJOR * 1000000 + GEZDUNAR_VERSION_MINOR * 1000 + GEZDUNAR_VERSION_PATCH)
 
@@ -50,6 +50,7 @@ enum gezdunar_refusal {
     GEZDUNAR_NAMED_VALUE = 24,
     /* A sample that is to be written has a bit above NBPP. No call answers 25. */
     GEZDUNAR_SAMPLE_BITS = 26,
+    /* A byte that is no mode, or one that is no edge rule; asked before all other questions. */
     GEZDUNAR_NO_MODE = 99
 };
 
@@ -83,20 +84,26 @@ static inline const char *gezdunar_refusal_text(uint32_t number) {
         return "a part of the subheader has another length, or a number that is not all digits";
     case GEZDUNAR_NAMED_VALUE: return "PVTYPE, PJUST, IC or IMODE has no named value, or ABPP is above 99";
     case GEZDUNAR_SAMPLE_BITS: return "a sample has a bit above NBPP";
-    case GEZDUNAR_NO_MODE: return "the mode is none of B, P, R and S";
+    case GEZDUNAR_NO_MODE: return "the mode is none of B, P, R and S, or the edge rule none of T and F";
     default: return "refused with a number that has no name here";
     }
 }
 
 /* A picture in blocks. The fields have the names of MIL-STD-2500C, but for bands, which is its NBANDS or XBANDS. A
    block has nppbv rows and nppbh columns; nbpr blocks stand across, nbpc down. imode is the letter's byte: 'B', 'P',
-   'R' or 'S'. */
+   'R' or 'S'.
+   edges is the edge rule, a letter's byte too: where nbpp is no multiple of 8, how the samples of a block lie that is
+   partly outside the picture. 'T', tight: its samples inside the picture, without gaps. 'F', full: those of a whole
+   block, with zeros outside the picture. Multiples of 8 lie the same under both. The standard's blocks are full, and
+   with them those of other writers and viewers; images of version 0.4 and earlier are tight. There is no default, and
+   0 is no rule: a wrong guess gives believable samples. */
 struct gezdunar_grid {
     uint32_t nrows;
     uint32_t ncols;
     uint32_t bands;
     uint32_t nbpp;
     uint8_t imode;
+    uint8_t edges;
     uint32_t nppbh;
     uint32_t nppbv;
     uint32_t nbpr;
@@ -105,7 +112,8 @@ struct gezdunar_grid {
 
 /* The fields of three parts of an image subheader: NROWS to PJUST (38 bytes), IC (2), IMODE to NBPP (19). pvtype is
    "INT", "SI ", "R  ", "C  " or "B  ", pjust 'R' or 'L', ic "NC" or "NM"; irep and icat are carried unread. No array
-   ends with a zero byte. The grid has nppbh and nppbv as they are meant, not as a zero field. */
+   ends with a zero byte. The grid has nppbh and nppbv as they are meant, not as a zero field; its bands and its edges
+   are not in the parts. */
 struct gezdunar_subheader {
     uint8_t pvtype[3];
     uint8_t irep[8];
@@ -160,7 +168,8 @@ uint32_t gezdunar_version(void);
 /* The grid of a picture in blocks: nbpr and nbpc by rounding up; a block side of 0 gives 0 blocks. Nothing is refused
    here. Rows stand before columns, of the picture and of the block. (C++: write struct gezdunar_grid for the type.) */
 struct gezdunar_grid gezdunar_grid(
-    uint32_t nrows, uint32_t ncols, uint32_t bands, uint32_t nbpp, uint8_t imode, uint32_t nppbv, uint32_t nppbh);
+    uint32_t nrows, uint32_t ncols, uint32_t bands, uint32_t nbpp, uint8_t imode, uint8_t edges, uint32_t nppbv,
+    uint32_t nppbh);
 
 /* Questions 1 to 4 of a grid.
    Numbers: 0 to 4, 99. */
@@ -170,15 +179,17 @@ uint32_t gezdunar_grid_check(struct gezdunar_grid grid);
    Numbers: 0 to 4, 99. */
 struct gezdunar_sizes gezdunar_grid_sizes(struct gezdunar_grid grid);
 
-/* Reads three parts of an image subheader, for a picture of so many bands; the parts do not hold that count. A zero
-   NPPBH with NBPR 1 is read as NCOLS, a zero NPPBV with NBPC 1 as NROWS. Beside a refusal all of subheader is zero.
-   Lent: the parts, of exactly 38, 2 and 19 bytes. Numbers: 0 to 4, 23, 24. */
+/* Reads three parts of an image subheader, for a picture of so many bands under an edge rule; the parts hold neither. A
+   zero NPPBH with NBPR 1 is read as NCOLS, a zero NPPBV with NBPC 1 as NROWS. Beside a refusal all of subheader is
+   zero. 99 is for edges alone; an IMODE that is no mode is 24.
+   Lent: the parts, of exactly 38, 2 and 19 bytes. Numbers: 0 to 4, 23, 24, 99. */
 struct gezdunar_read_subheader gezdunar_subheader_read(
     const uint8_t *first, size_t first_length, const uint8_t *second, size_t second_length, const uint8_t *third,
-    size_t third_length, uint32_t bands);
+    size_t third_length, uint32_t bands, uint8_t edges);
 
 /* Writes the three parts: numbers in digits with leading zeros, NPPBH and NPPBV as zeros where they are above 8,192.
-   Written: the front of first, second and third, 38, 2 and 19 bytes. Numbers: 0 to 4, 9, 24. */
+   The edge rule is asked for and not written. 99 is for edges alone; an imode that is no mode is 24.
+   Written: the front of first, second and third, 38, 2 and 19 bytes. Numbers: 0 to 4, 9, 24, 99. */
 uint32_t gezdunar_subheader_write(
     struct gezdunar_subheader subheader, uint8_t *first, size_t first_length, uint8_t *second, size_t second_length,
     uint8_t *third, size_t third_length);
@@ -212,8 +223,8 @@ struct gezdunar_answer gezdunar_start(
 /* Stores the samples of a block, which stand in data band by band, row by row, and marks the block. Each sample is at
    most 2^NBPP - 1; one with a bit above NBPP is refused with 26, and no sample of the block is stored. A read or a
    window then gives what was written, bit for bit. A block may be written again.
-   Lent: data. Written: in the image the samples' bytes or, where NBPP is no multiple of 8, the bytes of the block's
-   bands; in marks the block's bit. Numbers: 0 to 4, 6, 11 to 14, 26, 99. */
+   Lent: data. Written: in the image the samples' bytes or, where NBPP is no multiple of 8, all bytes of the block's
+   bands, zeros beside the samples; in marks the block's bit. Numbers: 0 to 4, 6, 11 to 14, 26, 99. */
 struct gezdunar_answer gezdunar_encode_block(
     uint8_t *image, size_t image_length, uint64_t *marks, size_t marks_length, struct gezdunar_grid grid,
     uint32_t block_row, uint32_t block_col, size_t shape_bands, size_t shape_rows, size_t shape_columns,

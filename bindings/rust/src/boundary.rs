@@ -1,9 +1,9 @@
 //! The C boundary, as `include/gezdunar.h` declares it, and a safe function for each of its calls: slices cross as a
 //! pointer and a length, the grid as a struct of its numbers. All that is unsafe stands here.
 
-use crate::{Bands, Grid, ImageDataMask, InterleaveMode, Window};
+use crate::{Bands, EdgeRule, Grid, ImageDataMask, InterleaveMode, Window};
 
-/// The grid of a subheader. IMODE is a byte: beside a refusal it is 0, which is no mode.
+/// The grid of a subheader. IMODE and the edge rule are bytes: beside a refusal they are 0, which is neither.
 #[repr(C)]
 pub(crate) struct SubheaderGrid {
     pub nrows: u32,
@@ -11,6 +11,7 @@ pub(crate) struct SubheaderGrid {
     pub bands: u32,
     pub nbpp: u32,
     pub imode: u8,
+    pub edges: u8,
     pub nppbh: u32,
     pub nppbv: u32,
     pub nbpr: u32,
@@ -112,7 +113,7 @@ extern "C" {
     fn gezdunar_version() -> u32;
 
     fn gezdunar_grid(
-        nrows: u32, ncols: u32, bands: u32, nbpp: u32, imode: u8, nppbv: u32, nppbh: u32,
+        nrows: u32, ncols: u32, bands: u32, nbpp: u32, imode: u8, edges: u8, nppbv: u32, nppbh: u32,
     ) -> Grid;
 
     fn gezdunar_grid_check(grid: Grid) -> u32;
@@ -121,7 +122,7 @@ extern "C" {
 
     fn gezdunar_subheader_read(
         first: *const u8, first_length: usize, second: *const u8, second_length: usize,
-        third: *const u8, third_length: usize, bands: u32,
+        third: *const u8, third_length: usize, bands: u32, edges: u8,
     ) -> ReadSubheader;
 
     fn gezdunar_subheader_write(
@@ -217,17 +218,19 @@ fn version() -> u32 {
     unsafe { gezdunar_version() }
 }
 
+#[allow(clippy::too_many_arguments)]
 pub(crate) fn grid(
     nrows: u32,
     ncols: u32,
     bands: u32,
     nbpp: u32,
     imode: InterleaveMode,
+    edges: EdgeRule,
     nppbv: u32,
     nppbh: u32,
 ) -> Grid {
-    // SAFETY: only numbers; the answer has the letter of IMODE that is handed in.
-    unsafe { gezdunar_grid(nrows, ncols, bands, nbpp, imode.letter(), nppbv, nppbh) }
+    // SAFETY: only numbers; the answer has the letters of IMODE and of the edge rule that are handed in.
+    unsafe { gezdunar_grid(nrows, ncols, bands, nbpp, imode.letter(), edges.letter(), nppbv, nppbh) }
 }
 
 pub(crate) fn grid_check(grid: &Grid) -> u32 {
@@ -240,7 +243,7 @@ pub(crate) fn grid_sizes(grid: &Grid) -> Sizes {
     unsafe { gezdunar_grid_sizes(*grid) }
 }
 
-pub(crate) fn subheader_read(first: &[u8], second: &[u8], third: &[u8], bands: u32) -> ReadSubheader {
+pub(crate) fn subheader_read(first: &[u8], second: &[u8], third: &[u8], bands: u32, edges: EdgeRule) -> ReadSubheader {
     // SAFETY: borrowed slices.
     unsafe {
         gezdunar_subheader_read(
@@ -251,6 +254,7 @@ pub(crate) fn subheader_read(first: &[u8], second: &[u8], third: &[u8], bands: u
             third.as_ptr(),
             third.len(),
             bands,
+            edges.letter(),
         )
     }
 }

@@ -7,8 +7,8 @@ use crate::{encode_block, finalize, progress, skip_block, start, Grid, Refusal, 
 ///
 /// ```
 /// # fn main() -> Result<(), gezdunar::Refusal> {
-/// use gezdunar::{Frame, Grid, InterleaveMode, Refusal};
-/// let grid = Grid::new(1, 2, 1, 8, InterleaveMode::B, 1, 1);
+/// use gezdunar::{EdgeRule, Frame, Grid, InterleaveMode, Refusal};
+/// let grid = Grid::new(1, 2, 1, 8, InterleaveMode::B, EdgeRule::Full, 1, 1);
 /// let mut frame = Frame::new(grid)?;
 /// frame.encode_block(0, 0, grid.block_shape(0, 0), &[9])?;
 /// assert_eq!(frame.progress()?, 1);
@@ -31,8 +31,8 @@ impl Frame {
     /// the image or the marks.
     ///
     /// ```
-    /// use gezdunar::{Frame, Grid, InterleaveMode};
-    /// assert!(Frame::new(Grid::new(1, 2, 1, 8, InterleaveMode::B, 1, 1)).is_ok());
+    /// use gezdunar::{EdgeRule, Frame, Grid, InterleaveMode};
+    /// assert!(Frame::new(Grid::new(1, 2, 1, 8, InterleaveMode::B, EdgeRule::Full, 1, 1)).is_ok());
     /// ```
     pub fn new(grid: Grid) -> Result<Frame, Refusal> {
         let sizes = grid.sizes()?;
@@ -46,8 +46,8 @@ impl Frame {
     ///
     /// ```
     /// # fn main() -> Result<(), gezdunar::Refusal> {
-    /// # use gezdunar::{Frame, Grid, InterleaveMode};
-    /// let mut frame = Frame::new(Grid::new(1, 2, 1, 8, InterleaveMode::B, 1, 1))?;
+    /// # use gezdunar::{EdgeRule, Frame, Grid, InterleaveMode};
+    /// let mut frame = Frame::new(Grid::new(1, 2, 1, 8, InterleaveMode::B, EdgeRule::Full, 1, 1))?;
     /// frame.encode_block(0, 1, frame.grid().block_shape(0, 1), &[9])?;
     /// assert_eq!(frame.image(), [0, 9]);
     /// # Ok(())
@@ -61,8 +61,8 @@ impl Frame {
     ///
     /// ```
     /// # fn main() -> Result<(), gezdunar::Refusal> {
-    /// # use gezdunar::{Frame, Grid, InterleaveMode};
-    /// let mut frame = Frame::new(Grid::new(1, 2, 1, 8, InterleaveMode::B, 1, 1))?;
+    /// # use gezdunar::{EdgeRule, Frame, Grid, InterleaveMode};
+    /// let mut frame = Frame::new(Grid::new(1, 2, 1, 8, InterleaveMode::B, EdgeRule::Full, 1, 1))?;
     /// frame.skip_block(0, 1)?;
     /// assert_eq!(frame.marks(), [2]);
     /// # Ok(())
@@ -76,8 +76,8 @@ impl Frame {
     ///
     /// ```
     /// # fn main() -> Result<(), gezdunar::Refusal> {
-    /// # use gezdunar::{Frame, Grid, InterleaveMode};
-    /// let mut frame = Frame::new(Grid::new(1, 2, 1, 8, InterleaveMode::B, 1, 1))?;
+    /// # use gezdunar::{EdgeRule, Frame, Grid, InterleaveMode};
+    /// let mut frame = Frame::new(Grid::new(1, 2, 1, 8, InterleaveMode::B, EdgeRule::Full, 1, 1))?;
     /// frame.skip_block(0, 0)?;
     /// assert_eq!(frame.progress()?, 1);
     /// # Ok(())
@@ -91,8 +91,8 @@ impl Frame {
     ///
     /// ```
     /// # fn main() -> Result<(), gezdunar::Refusal> {
-    /// # use gezdunar::{Frame, Grid, InterleaveMode, Refusal};
-    /// let frame = Frame::new(Grid::new(1, 2, 1, 8, InterleaveMode::B, 1, 1))?;
+    /// # use gezdunar::{EdgeRule, Frame, Grid, InterleaveMode, Refusal};
+    /// let frame = Frame::new(Grid::new(1, 2, 1, 8, InterleaveMode::B, EdgeRule::Full, 1, 1))?;
     /// assert_eq!(frame.finalize(), Err(Refusal::UnmarkedBlock { row: 0, column: 0 }));
     /// # Ok(())
     /// # }

@@ -2,7 +2,7 @@
 
 use crate::boundary;
 use crate::refusal::accepted;
-use crate::{InterleaveMode, Refusal};
+use crate::{EdgeRule, InterleaveMode, Refusal};
 
 /// A picture in blocks. The fields have the names of MIL-STD-2500C, but for `bands`, its NBANDS or XBANDS. It crosses
 /// the C boundary as it is: the header's struct `gezdunar_grid`.
@@ -19,6 +19,8 @@ pub struct Grid {
     pub nbpp: u32,
     /// The order of the samples.
     pub imode: InterleaveMode,
+    /// How the samples of edge blocks lie where NBPP is no multiple of 8.
+    pub edges: EdgeRule,
     /// Columns of a block: at most 8,192, or all of the picture.
     pub nppbh: u32,
     /// Rows of a block: at most 8,192, or all of the picture.
@@ -64,22 +66,33 @@ fn actual(picture: u32, block: u32, index: u32) -> usize {
 
 impl Grid {
     /// A picture in blocks of `nppbv` rows and `nppbh` columns. NBPR and NBPC follow by rounding up; a block side of 0
-    /// gives 0 blocks. Nothing is refused here, see [`check`](Grid::check).
+    /// gives 0 blocks. Nothing is refused here, see [`check`](Grid::check). The edge rule has no default; at multiples
+    /// of 8 bits either will do.
     ///
     /// ```
-    /// use gezdunar::{Grid, InterleaveMode};
-    /// let grid = Grid::new(3, 5, 2, 8, InterleaveMode::B, 4, 2);
+    /// use gezdunar::{EdgeRule, Grid, InterleaveMode};
+    /// let grid = Grid::new(3, 5, 2, 8, InterleaveMode::B, EdgeRule::Full, 4, 2);
     /// assert_eq!((grid.nbpr, grid.nbpc), (2, 2));
     /// ```
-    pub fn new(nrows: u32, ncols: u32, bands: u32, nbpp: u32, imode: InterleaveMode, nppbh: u32, nppbv: u32) -> Grid {
-        boundary::grid(nrows, ncols, bands, nbpp, imode, nppbv, nppbh)
+    #[allow(clippy::too_many_arguments)]
+    pub fn new(
+        nrows: u32,
+        ncols: u32,
+        bands: u32,
+        nbpp: u32,
+        imode: InterleaveMode,
+        edges: EdgeRule,
+        nppbh: u32,
+        nppbv: u32,
+    ) -> Grid {
+        boundary::grid(nrows, ncols, bands, nbpp, imode, edges, nppbv, nppbh)
     }
 
     /// Questions 1 to 4. Numbers: 1 to 4.
     ///
     /// ```
-    /// use gezdunar::{Grid, InterleaveMode, Refusal};
-    /// let grid = Grid::new(3, 5, 2, 8, InterleaveMode::B, 4, 2);
+    /// use gezdunar::{EdgeRule, Grid, InterleaveMode, Refusal};
+    /// let grid = Grid::new(3, 5, 2, 8, InterleaveMode::B, EdgeRule::Full, 4, 2);
     /// assert_eq!(grid.check(), Ok(()));
     /// assert_eq!(Grid { nbpr: 1, ..grid }.check(), Err(Refusal::BlockCounts));
     /// ```
@@ -91,8 +104,8 @@ impl Grid {
     ///
     /// ```
     /// # fn main() -> Result<(), gezdunar::Refusal> {
-    /// use gezdunar::{Grid, InterleaveMode};
-    /// let sizes = Grid::new(3, 5, 2, 8, InterleaveMode::B, 4, 2).sizes()?;
+    /// use gezdunar::{EdgeRule, Grid, InterleaveMode};
+    /// let sizes = Grid::new(3, 5, 2, 8, InterleaveMode::B, EdgeRule::Full, 4, 2).sizes()?;
     /// assert_eq!((sizes.sample_bytes, sizes.band_bytes, sizes.block_bytes, sizes.image_bytes), (1, 8, 16, 64));
     /// assert_eq!((sizes.blocks, sizes.mark_words), (4, 1));
     /// # Ok(())
@@ -114,8 +127,8 @@ impl Grid {
     /// The rows inside the picture of the blocks in a row of blocks; 0 outside the picture.
     ///
     /// ```
-    /// use gezdunar::{Grid, InterleaveMode};
-    /// let grid = Grid::new(3, 5, 2, 8, InterleaveMode::B, 4, 2);
+    /// use gezdunar::{EdgeRule, Grid, InterleaveMode};
+    /// let grid = Grid::new(3, 5, 2, 8, InterleaveMode::B, EdgeRule::Full, 4, 2);
     /// assert_eq!((grid.actual_rows(0), grid.actual_rows(1), grid.actual_rows(2)), (2, 1, 0));
     /// ```
     pub fn actual_rows(&self, block_row: u32) -> usize {
@@ -125,8 +138,8 @@ impl Grid {
     /// The columns inside the picture of the blocks in a column of blocks; 0 outside the picture.
     ///
     /// ```
-    /// use gezdunar::{Grid, InterleaveMode};
-    /// let grid = Grid::new(3, 5, 2, 8, InterleaveMode::B, 4, 2);
+    /// use gezdunar::{EdgeRule, Grid, InterleaveMode};
+    /// let grid = Grid::new(3, 5, 2, 8, InterleaveMode::B, EdgeRule::Full, 4, 2);
     /// assert_eq!((grid.actual_columns(0), grid.actual_columns(1), grid.actual_columns(2)), (4, 1, 0));
     /// ```
     pub fn actual_columns(&self, block_col: u32) -> usize {
@@ -136,8 +149,8 @@ impl Grid {
     /// The shape of a block's samples: bands, actual rows, actual columns.
     ///
     /// ```
-    /// use gezdunar::{Grid, InterleaveMode, Shape};
-    /// let grid = Grid::new(3, 5, 2, 8, InterleaveMode::B, 4, 2);
+    /// use gezdunar::{EdgeRule, Grid, InterleaveMode, Shape};
+    /// let grid = Grid::new(3, 5, 2, 8, InterleaveMode::B, EdgeRule::Full, 4, 2);
     /// assert_eq!(grid.block_shape(0, 1), Shape { bands: 2, rows: 2, columns: 1 });
     /// ```
     pub fn block_shape(&self, block_row: u32, block_col: u32) -> Shape {

@@ -1,7 +1,8 @@
 //! Uncompressed NITF 2.1 image blocks: safe calls over the proved library that `rt staticlib gezdunar` builds.
 //!
 //! A picture is described by a [`Grid`]. [`ImageSubheader`] reads it from three parts of an image subheader, and writes
-//! it there. A picture's blocks are written into an image with a [`Frame`], or into lent buffers with [`start`],
+//! it there. What such parts do not tell is the [`EdgeRule`], which must be known where the bits of a sample are no
+//! multiple of 8. A picture's blocks are written into an image with a [`Frame`], or into lent buffers with [`start`],
 //! [`encode_block`], [`skip_block`], [`progress`] and [`finalize`]. They are read with [`decode_block`],
 //! [`whole_block`] and [`read_window`]. Samples outside the image stand band by band, row by row, each in its
 //! big-endian bytes.
@@ -11,11 +12,11 @@
 //! buffer may be longer than needed; the rest of it is kept.
 //!
 //! ```
-//! use gezdunar::{read_window_vec, Bands, Frame, Grid, InterleaveMode, Window};
+//! use gezdunar::{read_window_vec, Bands, EdgeRule, Frame, Grid, InterleaveMode, Window};
 //!
 //! # fn main() -> Result<(), gezdunar::Refusal> {
-//! // 2 rows by 3 columns, one band of 8 bits, in blocks of 2 by 2.
-//! let grid = Grid::new(2, 3, 1, 8, InterleaveMode::B, 2, 2);
+//! // 2 rows by 3 columns, one band of 8 bits, in blocks of 2 by 2; the edge rule is the standard's.
+//! let grid = Grid::new(2, 3, 1, 8, InterleaveMode::B, EdgeRule::Full, 2, 2);
 //! let mut frame = Frame::new(grid)?;
 //! frame.encode_block(0, 0, grid.block_shape(0, 0), &[1, 2, 4, 5])?;
 //! frame.encode_block(0, 1, grid.block_shape(0, 1), &[3, 6])?;
@@ -35,6 +36,7 @@
 mod bands;
 #[allow(unsafe_code)]
 mod boundary;
+mod edges;
 mod frame;
 mod grid;
 mod mask;
@@ -48,6 +50,7 @@ mod vectors;
 mod writes;
 
 pub use bands::Bands;
+pub use edges::EdgeRule;
 pub use frame::Frame;
 pub use grid::{Grid, Shape, Sizes};
 pub use mask::{

@@ -42,8 +42,8 @@ fn parsed(answer: boundary::Parsed) -> Result<Parsed, Refusal> {
 ///
 /// ```
 /// # fn main() -> Result<(), gezdunar::Refusal> {
-/// use gezdunar::{mask_parse, Grid, InterleaveMode};
-/// let grid = Grid::new(1, 2, 1, 8, InterleaveMode::B, 1, 1);
+/// use gezdunar::{mask_parse, EdgeRule, Grid, InterleaveMode};
+/// let grid = Grid::new(1, 2, 1, 8, InterleaveMode::B, EdgeRule::Full, 1, 1);
 /// let table = [0, 0, 0, 18, 0, 4, 0, 0, 0, 0, 0, 0, 0, 0, 255, 255, 255, 255];
 /// let parsed = mask_parse(&table, &grid)?;
 /// assert_eq!((parsed.mask.block_mask_record_length, parsed.used), (4, 18));
@@ -60,8 +60,8 @@ pub fn mask_parse(table: &[u8], grid: &Grid) -> Result<Parsed, Refusal> {
 ///
 /// ```
 /// # fn main() -> Result<(), gezdunar::Refusal> {
-/// use gezdunar::{mask_write, Grid, ImageDataMask, InterleaveMode, EMPTY_BLOCK_OFFSET};
-/// let grid = Grid::new(1, 2, 1, 8, InterleaveMode::B, 1, 1);
+/// use gezdunar::{mask_write, EdgeRule, Grid, ImageDataMask, InterleaveMode, EMPTY_BLOCK_OFFSET};
+/// let grid = Grid::new(1, 2, 1, 8, InterleaveMode::B, EdgeRule::Full, 1, 1);
 /// let mask = ImageDataMask { block_mask_record_length: 4, ..ImageDataMask::default() };
 /// let mut table = [0; 18];
 /// assert_eq!(mask_write(&grid, &mask, &[0, EMPTY_BLOCK_OFFSET], &[], &mut table)?, 18);
@@ -85,8 +85,8 @@ pub fn mask_write(
 ///
 /// ```
 /// # fn main() -> Result<(), gezdunar::Refusal> {
-/// use gezdunar::{mask_write_vec, Grid, ImageDataMask, InterleaveMode};
-/// let grid = Grid::new(1, 2, 1, 8, InterleaveMode::B, 1, 1);
+/// use gezdunar::{mask_write_vec, EdgeRule, Grid, ImageDataMask, InterleaveMode};
+/// let grid = Grid::new(1, 2, 1, 8, InterleaveMode::B, EdgeRule::Full, 1, 1);
 /// let table = mask_write_vec(&grid, &ImageDataMask::default(), &[], &[])?;
 /// assert_eq!(table, [0, 0, 0, 10, 0, 0, 0, 0, 0, 0]);
 /// # Ok(())
@@ -109,8 +109,8 @@ pub fn mask_write_vec(
 ///
 /// ```
 /// # fn main() -> Result<(), gezdunar::Refusal> {
-/// use gezdunar::{has_block, Grid, InterleaveMode};
-/// let grid = Grid::new(1, 2, 1, 8, InterleaveMode::B, 1, 1);
+/// use gezdunar::{has_block, EdgeRule, Grid, InterleaveMode};
+/// let grid = Grid::new(1, 2, 1, 8, InterleaveMode::B, EdgeRule::Full, 1, 1);
 /// let table = [0, 0, 0, 18, 0, 4, 0, 0, 0, 0, 0, 0, 0, 0, 255, 255, 255, 255];
 /// assert_eq!((has_block(&table, &grid, 0, 0, 0)?, has_block(&table, &grid, 0, 1, 0)?), (true, false));
 /// # Ok(())
@@ -127,8 +127,8 @@ pub fn has_block(table: &[u8], grid: &Grid, block_row: u32, block_col: u32, band
 ///
 /// ```
 /// # fn main() -> Result<(), gezdunar::Refusal> {
-/// use gezdunar::{get_block_offset, Grid, InterleaveMode};
-/// let grid = Grid::new(1, 2, 1, 8, InterleaveMode::B, 1, 1);
+/// use gezdunar::{get_block_offset, EdgeRule, Grid, InterleaveMode};
+/// let grid = Grid::new(1, 2, 1, 8, InterleaveMode::B, EdgeRule::Full, 1, 1);
 /// let table = [0, 0, 0, 18, 0, 4, 0, 0, 0, 0, 0, 0, 0, 0, 255, 255, 255, 255];
 /// assert_eq!(get_block_offset(&table, &grid, 0, 0, 0)?, Some(0));
 /// assert_eq!(get_block_offset(&table, &grid, 0, 1, 0)?, None);
@@ -152,8 +152,8 @@ pub fn get_block_offset(
 ///
 /// ```
 /// # fn main() -> Result<(), gezdunar::Refusal> {
-/// use gezdunar::{mask_from_marks, Grid, InterleaveMode, EMPTY_BLOCK_OFFSET};
-/// let grid = Grid::new(1, 2, 1, 8, InterleaveMode::B, 1, 1);
+/// use gezdunar::{mask_from_marks, EdgeRule, Grid, InterleaveMode, EMPTY_BLOCK_OFFSET};
+/// let grid = Grid::new(1, 2, 1, 8, InterleaveMode::B, EdgeRule::Full, 1, 1);
 /// let mut offsets = [7; 2];
 /// let parsed = mask_from_marks(&[1], &grid, &mut offsets)?;
 /// assert_eq!((parsed.mask.block_mask_record_length, parsed.used), (4, 2));
@@ -169,8 +169,8 @@ pub fn mask_from_marks(marks: &[u64], grid: &Grid, out: &mut [u32]) -> Result<Pa
 ///
 /// ```
 /// # fn main() -> Result<(), gezdunar::Refusal> {
-/// use gezdunar::{mask_from_marks_vec, Grid, InterleaveMode, EMPTY_BLOCK_OFFSET};
-/// let grid = Grid::new(1, 2, 1, 8, InterleaveMode::B, 1, 1);
+/// use gezdunar::{mask_from_marks_vec, EdgeRule, Grid, InterleaveMode, EMPTY_BLOCK_OFFSET};
+/// let grid = Grid::new(1, 2, 1, 8, InterleaveMode::B, EdgeRule::Full, 1, 1);
 /// let (mask, offsets) = mask_from_marks_vec(&[2], &grid)?;
 /// assert_eq!((mask.block_mask_record_length, offsets), (4, vec![EMPTY_BLOCK_OFFSET, 0]));
 /// # Ok(())

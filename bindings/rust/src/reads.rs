@@ -28,9 +28,9 @@ fn shape(answer: boundary::Shape) -> Result<Shape, Refusal> {
 ///
 /// ```
 /// # fn main() -> Result<(), gezdunar::Refusal> {
-/// use gezdunar::{decode_block, Bands, Grid, InterleaveMode, Shape};
+/// use gezdunar::{decode_block, Bands, EdgeRule, Grid, InterleaveMode, Shape};
 /// // 2 rows by 2 columns, 2 bands, one block.
-/// let grid = Grid::new(2, 2, 2, 8, InterleaveMode::P, 2, 2);
+/// let grid = Grid::new(2, 2, 2, 8, InterleaveMode::P, EdgeRule::Full, 2, 2);
 /// let mut out = [0; 4];
 /// let shape = decode_block(&[1, 5, 2, 6, 3, 7, 4, 8], &grid, 0, 0, 0, Bands::Listed(&[1]), &mut out)?;
 /// assert_eq!((shape, out), (Shape { bands: 1, rows: 2, columns: 2 }, [5, 6, 7, 8]));
@@ -53,8 +53,8 @@ pub fn decode_block(
 ///
 /// ```
 /// # fn main() -> Result<(), gezdunar::Refusal> {
-/// use gezdunar::{decode_block_vec, Bands, Grid, InterleaveMode};
-/// let grid = Grid::new(2, 2, 2, 8, InterleaveMode::P, 2, 2);
+/// use gezdunar::{decode_block_vec, Bands, EdgeRule, Grid, InterleaveMode};
+/// let grid = Grid::new(2, 2, 2, 8, InterleaveMode::P, EdgeRule::Full, 2, 2);
 /// let (shape, samples) = decode_block_vec(&[1, 5, 2, 6, 3, 7, 4, 8], &grid, 0, 0, 0, Bands::All)?;
 /// assert_eq!((shape.bands, samples), (2, vec![1, 2, 3, 4, 5, 6, 7, 8]));
 /// # Ok(())
@@ -79,9 +79,9 @@ pub fn decode_block_vec(
 ///
 /// ```
 /// # fn main() -> Result<(), gezdunar::Refusal> {
-/// use gezdunar::{whole_block, Grid, InterleaveMode};
+/// use gezdunar::{whole_block, EdgeRule, Grid, InterleaveMode};
 /// // 2 rows by 3 columns in blocks of 2 by 2: the second block holds one column of the picture.
-/// let grid = Grid::new(2, 3, 1, 8, InterleaveMode::B, 2, 2);
+/// let grid = Grid::new(2, 3, 1, 8, InterleaveMode::B, EdgeRule::Full, 2, 2);
 /// assert_eq!(whole_block(&[1, 2, 4, 5, 3, 0, 6, 0], &grid, 0, 1)?, [3, 0, 6, 0]);
 /// # Ok(())
 /// # }
@@ -97,8 +97,8 @@ pub fn whole_block<'a>(image: &'a [u8], grid: &Grid, block_row: u32, block_col: 
 ///
 /// ```
 /// # fn main() -> Result<(), gezdunar::Refusal> {
-/// use gezdunar::{read_window, Bands, Grid, InterleaveMode, Window};
-/// let grid = Grid::new(2, 3, 1, 8, InterleaveMode::B, 2, 2);
+/// use gezdunar::{read_window, Bands, EdgeRule, Grid, InterleaveMode, Window};
+/// let grid = Grid::new(2, 3, 1, 8, InterleaveMode::B, EdgeRule::Full, 2, 2);
 /// let window = Window { row: 1, column: 1, rows: 1, columns: 2 };
 /// let mut out = [0; 2];
 /// read_window(&[1, 2, 4, 5, 3, 0, 6, 0], &grid, window, Bands::All, &mut out)?;
@@ -120,8 +120,8 @@ pub fn read_window(
 ///
 /// ```
 /// # fn main() -> Result<(), gezdunar::Refusal> {
-/// use gezdunar::{read_window_vec, Bands, Grid, InterleaveMode, Shape, Window};
-/// let grid = Grid::new(2, 3, 1, 8, InterleaveMode::B, 2, 2);
+/// use gezdunar::{read_window_vec, Bands, EdgeRule, Grid, InterleaveMode, Shape, Window};
+/// let grid = Grid::new(2, 3, 1, 8, InterleaveMode::B, EdgeRule::Full, 2, 2);
 /// let window = Window { row: 0, column: 1, rows: 2, columns: 2 };
 /// let (shape, samples) = read_window_vec(&[1, 2, 4, 5, 3, 0, 6, 0], &grid, window, Bands::All)?;
 /// assert_eq!((shape, samples), (Shape { bands: 1, rows: 2, columns: 2 }, vec![2, 3, 5, 6]));

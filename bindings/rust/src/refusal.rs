@@ -6,8 +6,8 @@ use std::fmt;
 /// What was wrong first, in the order in which a call asks its questions. A refused call has written nothing.
 ///
 /// ```
-/// use gezdunar::{Grid, InterleaveMode, Refusal};
-/// let refusal = Grid::new(3, 5, 2, 17, InterleaveMode::B, 4, 2).check().unwrap_err();
+/// use gezdunar::{EdgeRule, Grid, InterleaveMode, Refusal};
+/// let refusal = Grid::new(3, 5, 2, 17, InterleaveMode::B, EdgeRule::Full, 4, 2).check().unwrap_err();
 /// assert_eq!((refusal, refusal.number()), (Refusal::Width, 2));
 /// assert_eq!(refusal.to_string(), "2: the width or sample size is not one that is taken");
 /// ```
@@ -69,7 +69,7 @@ pub enum Refusal {
     NamedValue,
     /// 26: a sample that is to be written has a bit above NBPP.
     SampleBits,
-    /// 99: a byte or a text that is no mode.
+    /// 99: a byte or a text that is no mode, or no edge rule.
     NoMode,
     /// A number that has no name here.
     Unknown(u32),
@@ -182,7 +182,7 @@ impl Refusal {
             Refusal::SubheaderPart => "a part of the subheader has another length, or a number that is not all digits",
             Refusal::NamedValue => "PVTYPE, PJUST, IC or IMODE has no named value, or ABPP is above 99",
             Refusal::SampleBits => "a sample has a bit above NBPP",
-            Refusal::NoMode => "the mode is none of B, P, R and S",
+            Refusal::NoMode => "the mode is none of B, P, R and S, or the edge rule none of T and F",
             Refusal::Unknown(_) => "refused with a number that has no name here",
         }
     }

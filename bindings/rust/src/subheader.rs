@@ -2,19 +2,19 @@
 
 use crate::boundary;
 use crate::refusal::accepted;
-use crate::{Grid, ImageCompression, InterleaveMode, PixelJustification, PixelValueType, Refusal};
+use crate::{EdgeRule, Grid, ImageCompression, InterleaveMode, PixelJustification, PixelValueType, Refusal};
 
 /// Three parts of an image subheader: NROWS to PJUST, IC, and IMODE to NBPP.
 pub type SubheaderParts = ([u8; 38], [u8; 2], [u8; 19]);
 
-/// The fields of three parts of an image subheader: NROWS to PJUST, IC, and IMODE to NBPP. The count of bands is the
-/// grid's; the parts do not hold it.
+/// The fields of three parts of an image subheader: NROWS to PJUST, IC, and IMODE to NBPP. The count of bands and the
+/// edge rule are the grid's; the parts do not hold them.
 ///
 /// ```
 /// # fn main() -> Result<(), gezdunar::Refusal> {
-/// use gezdunar::ImageSubheader;
+/// use gezdunar::{EdgeRule, ImageSubheader};
 /// let (first, second, third) = (b"0000020300000317INTMULTI   MS      12R", b"NC", b"P000700040048006412");
-/// let subheader = ImageSubheader::read(first, second, third, 5)?;
+/// let subheader = ImageSubheader::read(first, second, third, 5, EdgeRule::Full)?;
 /// assert_eq!((subheader.grid.nrows, subheader.grid.ncols), (203, 317));
 /// assert_eq!(subheader.to_parts()?, (*first, *second, *third));
 /// # Ok(())
@@ -47,35 +47,45 @@ impl ImageSubheader {
     pub const THIRD_BYTES: usize = 19;
 
     /// Reads three parts, of exactly [`FIRST_BYTES`](Self::FIRST_BYTES), [`SECOND_BYTES`](Self::SECOND_BYTES) and
-    /// [`THIRD_BYTES`](Self::THIRD_BYTES) bytes, for a picture of so many bands. A zero NPPBH with NBPR 1 is read as
-    /// NCOLS, a zero NPPBV with NBPC 1 as NROWS. Numbers: 1 to 4, 23, 24, in the order 23, 24, 1, 2, 3, 4.
+    /// [`THIRD_BYTES`](Self::THIRD_BYTES) bytes, for a picture of so many bands under an edge rule. A zero NPPBH with
+    /// NBPR 1 is read as NCOLS, a zero NPPBV with NBPC 1 as NROWS. Numbers: 1 to 4, 23, 24, in the order 23, 24, 1, 2,
+    /// 3, 4.
     ///
     /// ```
     /// # fn main() -> Result<(), gezdunar::Refusal> {
-    /// use gezdunar::{ImageSubheader, PixelValueType, Refusal};
+    /// use gezdunar::{EdgeRule, ImageSubheader, PixelValueType, Refusal};
     /// // One block of 2 rows and 9,000 columns.
     /// let (first, third) = (b"0000000200009000INTMONO    VIS     08R", b"B000100010000000208");
-    /// let subheader = ImageSubheader::read(first, b"NC", third, 1)?;
+    /// let read = |ic: &[u8]| ImageSubheader::read(first, ic, third, 1, EdgeRule::Full);
+    /// let subheader = read(b"NC")?;
     /// assert_eq!((subheader.pvtype, &subheader.irep), (PixelValueType::UnsignedInt, b"MONO    "));
     /// assert_eq!((subheader.grid.nppbh, subheader.grid.nppbv), (9_000, 2));
-    /// assert_eq!(ImageSubheader::read(first, b"", third, 1), Err(Refusal::SubheaderPart));
-    /// assert_eq!(ImageSubheader::read(first, b"C8", third, 1), Err(Refusal::NamedValue));
+    /// assert_eq!(read(b""), Err(Refusal::SubheaderPart));
+    /// assert_eq!(read(b"C8"), Err(Refusal::NamedValue));
     /// # Ok(())
     /// # }
     /// ```
-    pub fn read(first: &[u8], second: &[u8], third: &[u8], bands: u32) -> Result<ImageSubheader, Refusal> {
-        let answer = boundary::subheader_read(first, second, third, bands);
+    pub fn read(
+        first: &[u8],
+        second: &[u8],
+        third: &[u8],
+        bands: u32,
+        edges: EdgeRule,
+    ) -> Result<ImageSubheader, Refusal> {
+        let answer = boundary::subheader_read(first, second, third, bands, edges);
         accepted(answer.number)?;
         from_boundary(&answer.subheader)
     }
 
     /// Writes the parts into the front of the three outputs: numbers in digits with leading zeros, NPPBH and NPPBV as
-    /// zeros where they are above 8,192. Numbers: 1 to 4, 9, 24, in the order 24, 1, 2, 3, 4, 9.
+    /// zeros where they are above 8,192. The edge rule is not written. Numbers: 1 to 4, 9, 24, in the order 24, 1, 2,
+    /// 3, 4, 9.
     ///
     /// ```
     /// # fn main() -> Result<(), gezdunar::Refusal> {
     /// use gezdunar::{
-    ///     Grid, ImageCompression, ImageSubheader, InterleaveMode, PixelJustification, PixelValueType, Refusal,
+    ///     EdgeRule, Grid, ImageCompression, ImageSubheader, InterleaveMode, PixelJustification, PixelValueType,
+    ///     Refusal,
     /// };
     /// let subheader = ImageSubheader {
     ///     pvtype: PixelValueType::UnsignedInt,
@@ -84,7 +94,7 @@ impl ImageSubheader {
     ///     abpp: 8,
     ///     pjust: PixelJustification::Right,
     ///     ic: ImageCompression::NC,
-    ///     grid: Grid::new(2, 9_000, 1, 8, InterleaveMode::B, 9_000, 2),
+    ///     grid: Grid::new(2, 9_000, 1, 8, InterleaveMode::B, EdgeRule::Full, 9_000, 2),
     /// };
     /// let (mut first, mut second, mut third) = ([0; 38], [0; 2], [0; 19]);
     /// subheader.write(&mut first, &mut second, &mut third)?;
@@ -102,9 +112,9 @@ impl ImageSubheader {
     ///
     /// ```
     /// # fn main() -> Result<(), gezdunar::Refusal> {
-    /// use gezdunar::{ImageSubheader, Refusal};
+    /// use gezdunar::{EdgeRule, ImageSubheader, Refusal};
     /// let first = b"0000020300000317INTMULTI   MS      12R";
-    /// let subheader = ImageSubheader::read(first, b"NM", b"P000700040048006412", 5)?;
+    /// let subheader = ImageSubheader::read(first, b"NM", b"P000700040048006412", 5, EdgeRule::Full)?;
     /// let (written, ic, _) = subheader.to_parts()?;
     /// assert_eq!((&written, &ic), (first, b"NM"));
     /// assert_eq!(ImageSubheader { abpp: 100, ..subheader }.to_parts(), Err(Refusal::NamedValue));
@@ -138,6 +148,7 @@ fn grid_from_boundary(fields: &boundary::SubheaderGrid) -> Result<Grid, Refusal>
         bands: fields.bands,
         nbpp: fields.nbpp,
         imode: InterleaveMode::from_letter(fields.imode)?,
+        edges: EdgeRule::from_letter(fields.edges)?,
         nppbh: fields.nppbh,
         nppbv: fields.nppbv,
         nbpr: fields.nbpr,
@@ -165,6 +176,7 @@ fn grid_to_boundary(grid: &Grid) -> boundary::SubheaderGrid {
         bands: grid.bands,
         nbpp: grid.nbpp,
         imode: grid.imode.letter(),
+        edges: grid.edges.letter(),
         nppbh: grid.nppbh,
         nppbv: grid.nppbv,
         nbpr: grid.nbpr,

@@ -8,8 +8,8 @@ use crate::{Grid, Refusal, Shape};
 ///
 /// ```
 /// # fn main() -> Result<(), gezdunar::Refusal> {
-/// use gezdunar::{start, Grid, InterleaveMode};
-/// let grid = Grid::new(1, 2, 1, 8, InterleaveMode::B, 1, 1);
+/// use gezdunar::{start, EdgeRule, Grid, InterleaveMode};
+/// let grid = Grid::new(1, 2, 1, 8, InterleaveMode::B, EdgeRule::Full, 1, 1);
 /// let (mut image, mut marks) = ([7; 2], [7; 1]);
 /// start(&mut image, &mut marks, &grid)?;
 /// assert_eq!((image, marks), ([0; 2], [0; 1]));
@@ -26,8 +26,8 @@ pub fn start(image: &mut [u8], marks: &mut [u64], grid: &Grid) -> Result<(), Ref
 ///
 /// ```
 /// # fn main() -> Result<(), gezdunar::Refusal> {
-/// use gezdunar::{encode_block, Grid, InterleaveMode, Refusal};
-/// let grid = Grid::new(1, 2, 1, 8, InterleaveMode::B, 1, 1);
+/// use gezdunar::{encode_block, EdgeRule, Grid, InterleaveMode, Refusal};
+/// let grid = Grid::new(1, 2, 1, 8, InterleaveMode::B, EdgeRule::Full, 1, 1);
 /// let (mut image, mut marks) = ([0; 2], [0; 1]);
 /// encode_block(&mut image, &mut marks, &grid, 0, 1, grid.block_shape(0, 1), &[9])?;
 /// assert_eq!((image, marks), ([0, 9], [2]));
@@ -58,8 +58,8 @@ pub fn encode_block(
 ///
 /// ```
 /// # fn main() -> Result<(), gezdunar::Refusal> {
-/// use gezdunar::{skip_block, Grid, InterleaveMode};
-/// let grid = Grid::new(1, 2, 1, 8, InterleaveMode::B, 1, 1);
+/// use gezdunar::{skip_block, EdgeRule, Grid, InterleaveMode};
+/// let grid = Grid::new(1, 2, 1, 8, InterleaveMode::B, EdgeRule::Full, 1, 1);
 /// let mut marks = [0; 1];
 /// skip_block(&[0; 2], &mut marks, &grid, 0, 0)?;
 /// assert_eq!(marks, [1]);
@@ -74,8 +74,8 @@ pub fn skip_block(image: &[u8], marks: &mut [u64], grid: &Grid, block_row: u32, 
 ///
 /// ```
 /// # fn main() -> Result<(), gezdunar::Refusal> {
-/// use gezdunar::{progress, Grid, InterleaveMode};
-/// let grid = Grid::new(1, 2, 1, 8, InterleaveMode::B, 1, 1);
+/// use gezdunar::{progress, EdgeRule, Grid, InterleaveMode};
+/// let grid = Grid::new(1, 2, 1, 8, InterleaveMode::B, EdgeRule::Full, 1, 1);
 /// assert_eq!(progress(&[2], &grid)?, 1);
 /// # Ok(())
 /// # }
@@ -90,8 +90,8 @@ pub fn progress(marks: &[u64], grid: &Grid) -> Result<usize, Refusal> {
 /// Numbers: 1 to 4, 11, 12, 15.
 ///
 /// ```
-/// use gezdunar::{finalize, Grid, InterleaveMode, Refusal};
-/// let grid = Grid::new(1, 2, 1, 8, InterleaveMode::B, 1, 1);
+/// use gezdunar::{finalize, EdgeRule, Grid, InterleaveMode, Refusal};
+/// let grid = Grid::new(1, 2, 1, 8, InterleaveMode::B, EdgeRule::Full, 1, 1);
 /// assert_eq!(finalize(&[0; 2], &[3], &grid), Ok(()));
 /// assert_eq!(finalize(&[0; 2], &[1], &grid), Err(Refusal::UnmarkedBlock { row: 0, column: 1 }));
 /// ```

@@ -8,8 +8,8 @@ use gezdunar::{
     decode_block, decode_block_vec, encode_block, finalize, from_band_sequential, from_band_sequential_vec,
     fused_bip_to_bsq, fused_bip_to_bsq_vec, get_block_offset, has_block, mask_from_marks, mask_from_marks_vec,
     mask_parse, mask_write, mask_write_vec, progress, read_window, read_window_vec, skip_block, start,
-    to_band_sequential, to_band_sequential_vec, whole_block, Bands, Frame, Grid, ImageDataMask, ImageSubheader,
-    InterleaveMode, Refusal, Shape, Window,
+    to_band_sequential, to_band_sequential_vec, whole_block, Bands, EdgeRule, Frame, Grid, ImageDataMask,
+    ImageSubheader, InterleaveMode, Refusal, Shape, Window,
 };
 
 const NUMBERS: [u32; 14] = [0, 1, 2, 3, 4, 7, 8, 33, 64, 8_193, 99_999, 100_000_000, 0x8000_0000, u32::MAX];
@@ -42,12 +42,17 @@ impl Random {
         InterleaveMode::ALL[self.below(4)]
     }
 
+    fn rule(&mut self) -> EdgeRule {
+        EdgeRule::ALL[self.below(2)]
+    }
+
     /// A small grid, once in three times with one field changed to any number.
     fn grid(&mut self) -> Grid {
         let nbpp = [1, 4, 8, 12, 16, 24][self.below(6)];
         let (nrows, ncols) = (3 + self.below(3) as u32, 3 + self.below(3) as u32);
         let (nppbh, nppbv) = (1 + self.below(4) as u32, 1 + self.below(4) as u32);
-        let mut grid = Grid::new(nrows, ncols, 1 + self.below(3) as u32, nbpp, self.mode(), nppbh, nppbv);
+        let (bands, imode, edges) = (1 + self.below(3) as u32, self.mode(), self.rule());
+        let mut grid = Grid::new(nrows, ncols, bands, nbpp, imode, edges, nppbh, nppbv);
         let number = NUMBERS[self.below(NUMBERS.len())];
         match self.below(24) {
             0 => grid.nrows = number,
@@ -99,7 +104,8 @@ impl Random {
         let sides = [1, 5, 8_192, 8_193, 9_000, 65_536, 99_999_999];
         let [nrows, ncols] = [0; 2].map(|_| sides[self.below(sides.len())]);
         let [nppbh, nppbv] = [ncols, nrows].map(|side| [side, side, side / 2, 3][self.below(4)]);
-        Grid::new(nrows, ncols, 1 + self.below(3) as u32, [1, 8, 12, 64][self.below(4)], self.mode(), nppbh, nppbv)
+        let (bands, nbpp) = (1 + self.below(3) as u32, [1, 8, 12, 64][self.below(4)]);
+        Grid::new(nrows, ncols, bands, nbpp, self.mode(), self.rule(), nppbh, nppbv)
     }
 
     /// Samples of this many bytes in all, all bytes 1; every second time with one byte changed to any.
@@ -298,8 +304,10 @@ fn subheaders() {
         let Ok((first, second, third)) = fields.to_parts() else { continue };
         let [first, second, third] = [random.part(&first), random.part(&second), random.part(&third)];
         let bands = [grid.bands, grid.bands, random.number()][random.below(3)];
-        let answer = ImageSubheader::read(&first, &second, &third, bands);
-        assert_eq!(answer, expected::subheader_read(&first, &second, &third, bands), "{first:?}{second:?}{third:?}");
+        let edges = random.rule();
+        let answer = ImageSubheader::read(&first, &second, &third, bands, edges);
+        let expected = expected::subheader_read(&first, &second, &third, bands, edges);
+        assert_eq!(answer, expected, "{first:?}{second:?}{third:?}");
         read += u32::from(answer.is_ok());
     }
     assert!(accepted > 500 && read > 500, "{accepted} written, {read} read");

@@ -2,7 +2,7 @@
 
 mod common;
 
-use common::{block_samples, blocks, exact, largest, refused_grids, samples, shape, small, WIDTHS};
+use common::{block_samples, blocks, exact, largest, modes_and_rules, refused_grids, samples, shape, small, WIDTHS};
 use gezdunar::{decode_block_vec, read_window_vec, Bands, Frame, Grid, InterleaveMode, Refusal, Window};
 
 /// Writes the plain picture, the last block first and each block twice.
@@ -38,9 +38,9 @@ fn read_again(frame: &Frame, list: &[u32]) {
 
 #[test]
 fn pictures_come_back_in_every_mode_at_every_width() {
-    for imode in InterleaveMode::ALL {
+    for (imode, edges) in modes_and_rules() {
         for nbpp in WIDTHS {
-            let frame = written(Grid::new(5, 7, 3, nbpp, imode, 3, 2));
+            let frame = written(Grid::new(5, 7, 3, nbpp, imode, edges, 3, 2));
             read_again(&frame, &[0, 1, 2]);
             read_again(&frame, &[2, 0, 2, 2]);
             read_again(&frame, &[]);
@@ -50,20 +50,20 @@ fn pictures_come_back_in_every_mode_at_every_width() {
 
 #[test]
 fn pictures_come_back_in_blocks_above_8_192() {
-    for imode in InterleaveMode::ALL {
+    for (imode, edges) in modes_and_rules() {
         for nbpp in [8, 12] {
-            read_again(&written(Grid::new(5, 8_193, 2, nbpp, imode, 8_193, 2)), &[1, 0]);
-            read_again(&written(Grid::new(8_193, 7, 1, nbpp, imode, 4, 8_193)), &[0]);
+            read_again(&written(Grid::new(5, 8_193, 2, nbpp, imode, edges, 8_193, 2)), &[1, 0]);
+            read_again(&written(Grid::new(8_193, 7, 1, nbpp, imode, edges, 4, 8_193)), &[0]);
         }
     }
 }
 
 #[test]
 fn pictures_come_back_at_other_block_sides() {
-    for imode in InterleaveMode::ALL {
+    for (imode, edges) in modes_and_rules() {
         for (bands, nppbh, nppbv) in [(1, 1, 1), (2, 7, 5), (1, 8, 6), (2, 4, 1), (3, 1, 3)] {
             for nbpp in [1, 8, 11, 24] {
-                let frame = written(Grid::new(5, 7, bands, nbpp, imode, nppbh, nppbv));
+                let frame = written(Grid::new(5, 7, bands, nbpp, imode, edges, nppbh, nppbv));
                 read_again(&frame, &(0..bands).rev().collect::<Vec<u32>>());
             }
         }
@@ -101,9 +101,9 @@ fn refused_calls_leave_the_frame_as_it_was() {
 
 #[test]
 fn a_sample_that_does_not_fit_leaves_the_frame_as_it_was() {
-    for imode in InterleaveMode::ALL {
+    for (imode, edges) in modes_and_rules() {
         for nbpp in WIDTHS.into_iter().filter(|nbpp| nbpp % 8 != 0) {
-            let mut frame = written(Grid::new(5, 7, 3, nbpp, imode, 3, 2));
+            let mut frame = written(Grid::new(5, 7, 3, nbpp, imode, edges, 3, 2));
             let before = frame.clone();
             let shape = frame.grid().block_shape(1, 2);
             let mut data = largest(frame.grid(), shape.bytes(1));

@@ -4,15 +4,15 @@ mod common;
 
 use common::{exact, refused_grids};
 use gezdunar::{
-    get_block_offset, has_block, mask_from_marks, mask_from_marks_vec, mask_parse, mask_write, mask_write_vec, Grid,
-    ImageDataMask, InterleaveMode, Parsed, Refusal, EMPTY_BLOCK_OFFSET,
+    get_block_offset, has_block, mask_from_marks, mask_from_marks_vec, mask_parse, mask_write, mask_write_vec,
+    EdgeRule, Grid, ImageDataMask, InterleaveMode, Parsed, Refusal, EMPTY_BLOCK_OFFSET,
 };
 
 /// Figure n: two blocks in B, the second empty.
 const FIGURE_N: [u8; 18] = [0, 0, 0, 0x12, 0, 4, 0, 0, 0, 0, 0, 0, 0, 0, 0xFF, 0xFF, 0xFF, 0xFF];
 
 fn two_blocks() -> Grid {
-    Grid::new(1, 2, 1, 8, InterleaveMode::B, 1, 1)
+    Grid::new(1, 2, 1, 8, InterleaveMode::B, EdgeRule::Full, 1, 1)
 }
 
 fn mask(block: u16, pad: u16, bits: u16, code: u32) -> ImageDataMask {
@@ -62,7 +62,7 @@ fn without_block_records_every_block_is_present() {
 
 #[test]
 fn a_table_with_a_code_and_both_lists_comes_back() {
-    let grid = Grid::new(1, 2, 3, 8, InterleaveMode::S, 1, 1);
+    let grid = Grid::new(1, 2, 3, 8, InterleaveMode::S, EdgeRule::Full, 1, 1);
     let (blocks, pads) = (exact(&[10, 20, 30, EMPTY_BLOCK_OFFSET, 50, 60]), exact(&[1, 2, 3, 4, 5, 6]));
     let header = mask(4, 4, 12, 0xABCD);
     let table = mask_write_vec(&grid, &header, &blocks, &pads).expect("an accepted table").into_boxed_slice();
@@ -187,7 +187,7 @@ fn mask_write_refuses() {
 #[test]
 fn a_table_that_would_be_too_large_is_refused() {
     // 9,999 by 9,999 blocks of one byte in 11 bands: 1,099,780,011 records of 4 bytes.
-    let grid = Grid::new(9_999, 9_999, 11, 8, InterleaveMode::S, 1, 1);
+    let grid = Grid::new(9_999, 9_999, 11, 8, InterleaveMode::S, EdgeRule::Full, 1, 1);
     assert_eq!(refused(&grid, mask(4, 0, 0, 0), 0, 0, 0), 21);
     assert_eq!(refused(&Grid { bands: 10, ..grid }, mask(4, 0, 0, 0), 0, 0, 0), 22);
     assert_eq!(refused(&Grid { bands: 10, ..grid }, mask(4, 4, 0, 0), 0, 0, 0), 21);
@@ -196,7 +196,7 @@ fn a_table_that_would_be_too_large_is_refused() {
 
 #[test]
 fn masks_from_marks() {
-    let grid = Grid::new(1, 2, 3, 8, InterleaveMode::S, 1, 1);
+    let grid = Grid::new(1, 2, 3, 8, InterleaveMode::S, EdgeRule::Full, 1, 1);
     let empty = EMPTY_BLOCK_OFFSET;
     assert_eq!(mask_from_marks_vec(&exact(&[2]), &grid), Ok((mask(4, 0, 0, 0), vec![empty, empty, empty, 0, 0, 0])));
     let grid = Grid { imode: InterleaveMode::P, ..grid };

@@ -2,7 +2,9 @@
 
 mod common;
 
-use common::{block_samples, blocks, counting, exact, expected::block_end, refused_grids, shape, small};
+use common::{
+    block_samples, blocks, counting, exact, expected::block_end, modes_and_rules, refused_grids, shape, small,
+};
 use gezdunar::{decode_block, decode_block_vec, whole_block, Bands, Frame, Grid, InterleaveMode, Refusal, Shape};
 
 /// Reads block (1,1) of document 01's picture from an image of this length, into an output of exact size.
@@ -107,9 +109,9 @@ fn written(grid: Grid) -> Frame {
 
 #[test]
 fn an_image_serves_a_block_from_the_end_of_the_block_on() {
-    for imode in InterleaveMode::ALL {
+    for (imode, edges) in modes_and_rules() {
         for nbpp in [3, 8, 12, 16, 64] {
-            let frame = written(Grid::new(3, 5, 2, nbpp, imode, 2, 2));
+            let frame = written(Grid::new(3, 5, 2, nbpp, imode, edges, 2, 2));
             for block in blocks(frame.grid()) {
                 short_images(&frame, block);
             }

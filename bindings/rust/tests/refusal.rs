@@ -1,6 +1,6 @@
 //! Refusals, their numbers and their words.
 
-use gezdunar::{Grid, InterleaveMode, Refusal};
+use gezdunar::{EdgeRule, Grid, InterleaveMode, Refusal};
 use std::collections::HashSet;
 use std::error::Error;
 
@@ -41,6 +41,8 @@ fn every_number_is_told_in_words() {
     }
     assert_eq!(Refusal::ImageEnds.to_string(), "7: the image ends before the block does");
     assert_eq!(Refusal::SampleBits.to_string(), "26: a sample has a bit above NBPP");
+    let no_name = "99: the mode is none of B, P, R and S, or the edge rule none of T and F";
+    assert_eq!(Refusal::NoMode.to_string(), no_name);
 }
 
 #[test]
@@ -75,7 +77,7 @@ fn other_numbers_have_words_too() {
 #[test]
 fn a_refusal_is_an_error_that_can_be_matched() {
     fn check() -> Result<(), Box<dyn Error>> {
-        Grid::new(3, 5, 2, 17, InterleaveMode::B, 4, 2).check()?;
+        Grid::new(3, 5, 2, 17, InterleaveMode::B, EdgeRule::Full, 4, 2).check()?;
         Ok(())
     }
     let error = check().expect_err("17 is no width");

@@ -3,7 +3,9 @@
 mod common;
 
 use common::{exact, refused_grids, small, subheader, WIDTHS};
-use gezdunar::{Grid, ImageCompression, ImageSubheader, InterleaveMode, PixelJustification, PixelValueType, Refusal};
+use gezdunar::{
+    EdgeRule, Grid, ImageCompression, ImageSubheader, InterleaveMode, PixelJustification, PixelValueType, Refusal,
+};
 use std::str::FromStr;
 
 const FIRST: &[u8] = b"0000020300000317SI MULTI   MS      11L";
@@ -19,14 +21,22 @@ fn fields() -> ImageSubheader {
         abpp: 11,
         pjust: PixelJustification::Left,
         ic: ImageCompression::NM,
-        grid: Grid::new(203, 317, 5, 12, InterleaveMode::P, 48, 64),
+        grid: Grid::new(203, 317, 5, 12, InterleaveMode::P, EdgeRule::Full, 48, 64),
     }
 }
 
-/// Reads parts in buffers of exact size.
+/// Reads parts in buffers of exact size. Under the other rule the answer is the same but for the rule.
 fn read(first: &[u8], second: &[u8], third: &[u8], bands: u32) -> Result<ImageSubheader, u32> {
     let [first, second, third] = [first, second, third].map(exact);
-    ImageSubheader::read(&first, &second, &third, bands).map_err(Refusal::number)
+    let under = |edges| ImageSubheader::read(&first, &second, &third, bands, edges).map_err(Refusal::number);
+    let full = under(EdgeRule::Full);
+    assert_eq!(under(EdgeRule::Tight), full.map(|full| with_rule(&full, EdgeRule::Tight)));
+    full
+}
+
+/// The fields under another rule.
+fn with_rule(subheader: &ImageSubheader, edges: EdgeRule) -> ImageSubheader {
+    ImageSubheader { grid: Grid { edges, ..subheader.grid }, ..*subheader }
 }
 
 /// A part with other bytes from a place on.
@@ -41,6 +51,16 @@ fn sides(nrows: u32, ncols: u32, nbpr: u32, nbpc: u32, nppbh: &str, nppbv: &str)
     let first = format!("{nrows:08}{ncols:08}INTMONO    VIS     01R");
     let third = format!("B{nbpr:04}{nbpc:04}{nppbh}{nppbv}01");
     read(first.as_bytes(), b"NC", third.as_bytes(), 1).map(|read| (read.grid.nppbh, read.grid.nppbv))
+}
+
+#[test]
+fn the_rule_is_given_and_not_written() {
+    for edges in EdgeRule::ALL {
+        let subheader = ImageSubheader::read(FIRST, SECOND, THIRD, 5, edges).expect("the parts are accepted");
+        assert_eq!(subheader, with_rule(&fields(), edges));
+        let (first, second, third) = subheader.to_parts().expect("the fields are accepted");
+        assert_eq!((&first[..], &second[..], &third[..]), (FIRST, SECOND, THIRD));
+    }
 }
 
 /// The number of a write into outputs of these lengths, which must be kept where it is refused.
@@ -59,7 +79,7 @@ fn written(subheader: &ImageSubheader, lengths: [usize; 3]) -> u32 {
 fn the_fields_are_read() {
     assert_eq!(read(FIRST, SECOND, THIRD, 5), Ok(fields()));
     let one = read(b"0000000100000001B                  00R", b"NC", b"S000100010001000101", 99_999);
-    let grid = Grid::new(1, 1, 99_999, 1, InterleaveMode::S, 1, 1);
+    let grid = Grid::new(1, 1, 99_999, 1, InterleaveMode::S, EdgeRule::Full, 1, 1);
     let pvtype = PixelValueType::BiLevel;
     assert_eq!(one, Ok(ImageSubheader { pvtype, irep: *b"        ", icat: *b"        ", abpp: 0, ..subheader(grid) }));
 }
@@ -68,7 +88,7 @@ fn the_fields_are_read() {
 fn the_fields_are_written() {
     let (first, second, third) = fields().to_parts().expect("the fields are accepted");
     assert_eq!((&first[..], &second[..], &third[..]), (FIRST, SECOND, THIRD));
-    let grid = Grid::new(1, 1, 99_999, 1, InterleaveMode::S, 1, 1);
+    let grid = Grid::new(1, 1, 99_999, 1, InterleaveMode::S, EdgeRule::Full, 1, 1);
     let (first, second, third) = ImageSubheader { abpp: 0, ..subheader(grid) }.to_parts().expect("it is accepted");
     assert_eq!((&first, &second), (b"0000000100000001INTMULTI   MS      00R", b"NC"));
     assert_eq!(&third, b"S000100010001000101");
@@ -99,11 +119,11 @@ fn what_is_written_is_read_again() {
         comes_back(&ImageSubheader { abpp, ..fields() });
     }
     for side in [1, 9, 10, 99, 100, 8_191, 8_192, 8_193, 9_999, 10_000, 99_999_999] {
-        comes_back(&subheader(Grid::new(1, side, 1, 1, InterleaveMode::B, side, 1)));
-        comes_back(&subheader(Grid::new(side, 1, 1, 1, InterleaveMode::B, 1, side)));
+        comes_back(&subheader(Grid::new(1, side, 1, 1, InterleaveMode::B, EdgeRule::Full, side, 1)));
+        comes_back(&subheader(Grid::new(side, 1, 1, 1, InterleaveMode::B, EdgeRule::Full, 1, side)));
     }
-    comes_back(&subheader(Grid::new(9_999, 1, 1, 8, InterleaveMode::B, 8_192, 1)));
-    comes_back(&subheader(Grid::new(1, 81_911_808, 1, 8, InterleaveMode::B, 8_192, 1)));
+    comes_back(&subheader(Grid::new(9_999, 1, 1, 8, InterleaveMode::B, EdgeRule::Full, 8_192, 1)));
+    comes_back(&subheader(Grid::new(1, 81_911_808, 1, 8, InterleaveMode::B, EdgeRule::Full, 8_192, 1)));
 }
 
 #[test]
@@ -225,16 +245,17 @@ fn a_side_above_8_192_may_stand_as_it_is() {
 #[test]
 fn a_side_above_8_192_is_written_as_zeros() {
     for (side, field) in [(100, "0100"), (8_191, "8191"), (8_192, "8192"), (8_193, "0000"), (9_000, "0000")] {
-        let wide = Grid::new(2, side, 1, 8, InterleaveMode::B, side, 2);
+        let wide = Grid::new(2, side, 1, 8, InterleaveMode::B, EdgeRule::Full, side, 2);
         let (_, _, third) = subheader(wide).to_parts().expect("the grid is accepted");
         assert_eq!(third, format!("B00010001{field}000208").as_bytes());
-        let tall = Grid::new(side, 2, 1, 8, InterleaveMode::B, 2, side);
+        let tall = Grid::new(side, 2, 1, 8, InterleaveMode::B, EdgeRule::Full, 2, side);
         let (_, _, third) = subheader(tall).to_parts().expect("the grid is accepted");
         assert_eq!(third, format!("B000100010002{field}08").as_bytes());
     }
     // A block that is wider than the picture, and not above 8,192.
-    let (first, _, third) =
-        subheader(Grid::new(2, 3, 1, 8, InterleaveMode::B, 8_192, 8_192)).to_parts().expect("it is accepted");
+    let (first, _, third) = subheader(Grid::new(2, 3, 1, 8, InterleaveMode::B, EdgeRule::Full, 8_192, 8_192))
+        .to_parts()
+        .expect("it is accepted");
     assert_eq!((&first[..16], &third), (&b"0000000200000003"[..], b"B000100018192819208"));
 }
 

@@ -3,7 +3,7 @@
 mod common;
 
 use common::{counting, exact, refused_grids, shape, small};
-use gezdunar::{read_window, read_window_vec, Bands, Grid, InterleaveMode, Refusal, Window};
+use gezdunar::{read_window, read_window_vec, Bands, EdgeRule, Grid, InterleaveMode, Refusal, Window};
 
 const WHOLE: Window = Window { row: 0, column: 0, rows: 3, columns: 5 };
 
@@ -102,7 +102,7 @@ fn a_window_looks_only_at_the_blocks_that_it_crosses() {
 #[test]
 fn an_answer_that_memory_cannot_hold_is_refused() {
     // 67,108,864 samples, asked for 4,194,304 times.
-    let grid = Grid::new(8_192, 8_192, 1, 1, InterleaveMode::B, 8_192, 8_192);
+    let grid = Grid::new(8_192, 8_192, 1, 1, InterleaveMode::B, EdgeRule::Full, 8_192, 8_192);
     let image = vec![0; 8_388_608];
     let list = vec![0; 4_194_304];
     let window = Window { row: 0, column: 0, rows: 8_192, columns: 8_192 };

@@ -2,9 +2,10 @@
 
 mod common;
 
-use common::{block_samples, blocks, exact, largest, refused_grids, shape, small, WIDTHS};
+use common::{block_samples, blocks, exact, largest, modes_and_rules, refused_grids, shape, small, WIDTHS};
 use gezdunar::{
-    decode_block_vec, encode_block, finalize, progress, skip_block, start, Bands, Grid, InterleaveMode, Refusal, Shape,
+    decode_block_vec, encode_block, finalize, progress, read_window_vec, skip_block, start, Bands, EdgeRule, Grid,
+    InterleaveMode, Refusal, Shape, Window,
 };
 
 /// A started image and its marks, of exact size.
@@ -60,11 +61,11 @@ fn figures_a_to_d_written() {
 
 #[test]
 fn figure_k() {
-    for imode in InterleaveMode::ALL {
-        let grid = Grid::new(1, 3, 1, 12, imode, 3, 1);
+    for (imode, edges) in modes_and_rules() {
+        let grid = Grid::new(1, 3, 1, 12, imode, edges, 3, 1);
         let data = [0x01, 0x23, 0x04, 0x56, 0x07, 0x89];
         assert_eq!(*image_of(&grid, (0, 0), &data), [0x12, 0x34, 0x56, 0x78, 0x90]);
-        let grid = Grid::new(1, 1, 1, 12, imode, 1, 1);
+        let grid = Grid::new(1, 1, 1, 12, imode, edges, 1, 1);
         assert_eq!(stored(&grid, (0, 0), &[0xF1, 0x23]), 26);
         assert_eq!(*image_of(&grid, (0, 0), &[0x01, 0x23]), [0x12, 0x30]);
     }
@@ -72,8 +73,8 @@ fn figure_k() {
 
 #[test]
 fn figure_l() {
-    for imode in InterleaveMode::ALL {
-        let grid = Grid::new(1, 10, 1, 1, imode, 10, 1);
+    for (imode, edges) in modes_and_rules() {
+        let grid = Grid::new(1, 10, 1, 1, imode, edges, 10, 1);
         assert_eq!(*image_of(&grid, (0, 0), &[1, 0, 1, 1, 0, 0, 0, 1, 1, 1]), [0xB1, 0xC0]);
     }
 }
@@ -81,25 +82,36 @@ fn figure_l() {
 #[test]
 fn figure_m() {
     for imode in InterleaveMode::ALL {
-        let grid = Grid::new(2, 3, 1, 4, imode, 2, 2);
-        assert_eq!(*image_of(&grid, (0, 1), &[5, 9]), [0, 0, 0x59, 0]);
+        for (edges, bytes) in [(EdgeRule::Tight, [0, 0, 0x59, 0x00]), (EdgeRule::Full, [0, 0, 0x50, 0x90])] {
+            let grid = Grid::new(2, 3, 1, 4, imode, edges, 2, 2);
+            let image = image_of(&grid, (0, 1), &[5, 9]);
+            assert_eq!(*image, bytes);
+            let read = decode_block_vec(&image, &grid, 0, 1, 0, Bands::All);
+            assert_eq!(read, Ok((shape(1, 2, 1), vec![5, 9])));
+            let edge = Window { row: 0, column: 2, rows: 2, columns: 1 };
+            assert_eq!(read_window_vec(&image, &grid, edge, Bands::All), Ok((shape(1, 2, 1), vec![5, 9])));
+        }
     }
 }
 
 #[test]
 fn a_write_at_a_packed_width_clears_its_runs() {
-    let grid = Grid::new(2, 3, 1, 4, InterleaveMode::B, 2, 2);
-    let (mut image, mut marks) = (exact(&[0xFF; 4]), exact(&[0; 1]));
-    assert_eq!(encode_block(&mut image, &mut marks, &grid, 0, 1, shape(1, 2, 1), &exact(&[5, 9])), Ok(()));
-    assert_eq!(*image, [0xFF, 0xFF, 0x59, 0]);
+    for (edges, bytes) in [(EdgeRule::Tight, [0x59, 0x00]), (EdgeRule::Full, [0x50, 0x90])] {
+        let grid = Grid::new(2, 3, 1, 4, InterleaveMode::B, edges, 2, 2);
+        let (mut image, mut marks) = (exact(&[0xFF; 4]), exact(&[0; 1]));
+        assert_eq!(encode_block(&mut image, &mut marks, &grid, 0, 1, shape(1, 2, 1), &exact(&[5, 9])), Ok(()));
+        assert_eq!((&image[..2], &image[2..]), (&[0xFF; 2][..], &bytes[..]));
+    }
 }
 
 #[test]
 fn a_write_at_bytes_touches_only_its_samples() {
-    let grid = Grid::new(2, 3, 1, 8, InterleaveMode::B, 2, 2);
-    let (mut image, mut marks) = (exact(&[0xFF; 8]), exact(&[0; 1]));
-    assert_eq!(encode_block(&mut image, &mut marks, &grid, 0, 1, shape(1, 2, 1), &exact(&[5, 9])), Ok(()));
-    assert_eq!(*image, [0xFF, 0xFF, 0xFF, 0xFF, 5, 0xFF, 9, 0xFF]);
+    for edges in EdgeRule::ALL {
+        let grid = Grid::new(2, 3, 1, 8, InterleaveMode::B, edges, 2, 2);
+        let (mut image, mut marks) = (exact(&[0xFF; 8]), exact(&[0; 1]));
+        assert_eq!(encode_block(&mut image, &mut marks, &grid, 0, 1, shape(1, 2, 1), &exact(&[5, 9])), Ok(()));
+        assert_eq!(*image, [0xFF, 0xFF, 0xFF, 0xFF, 5, 0xFF, 9, 0xFF]);
+    }
 }
 
 #[test]
@@ -190,9 +202,9 @@ fn stored(grid: &Grid, (row, column): (u32, u32), data: &[u8]) -> u32 {
 
 #[test]
 fn every_bit_above_nbpp_of_every_sample_is_asked() {
-    for imode in InterleaveMode::ALL {
+    for (imode, edges) in modes_and_rules() {
         for nbpp in WIDTHS.into_iter().filter(|nbpp| nbpp % 8 != 0) {
-            let grid = Grid::new(5, 7, 2, nbpp, imode, 3, 2);
+            let grid = Grid::new(5, 7, 2, nbpp, imode, edges, 3, 2);
             let bits = nbpp.next_multiple_of(8);
             for (row, column) in [(0, 0), (1, 2), (2, 1)] {
                 let data = block_samples(&grid, &[0, 1], row, column);
@@ -210,9 +222,9 @@ fn every_bit_above_nbpp_of_every_sample_is_asked() {
 #[test]
 fn the_largest_sample_fits_and_the_next_does_not() {
     let largest = [(1, 1), (7, 0x7F), (9, 0x1FF), (12, 0xFFF), (15, 0x7FFF), (25, 0x1FF_FFFF), (31, 0x7FFF_FFFF)];
-    for imode in InterleaveMode::ALL {
+    for (imode, edges) in modes_and_rules() {
         for (nbpp, sample) in largest {
-            let grid = Grid::new(1, 2, 1, nbpp, imode, 2, 1);
+            let grid = Grid::new(1, 2, 1, nbpp, imode, edges, 2, 1);
             let bytes = |sample: u32| sample.to_be_bytes()[4 - nbpp.div_ceil(8) as usize..].to_vec();
             assert_eq!(stored(&grid, (0, 0), &[bytes(sample), bytes(sample)].concat()), 0, "{nbpp}");
             assert_eq!(stored(&grid, (0, 0), &[bytes(sample + 1), bytes(0)].concat()), 26, "{nbpp}");
@@ -223,9 +235,9 @@ fn the_largest_sample_fits_and_the_next_does_not() {
 
 #[test]
 fn ones_fit_at_byte_multiples_only() {
-    for imode in InterleaveMode::ALL {
+    for (imode, edges) in modes_and_rules() {
         for nbpp in WIDTHS {
-            let grid = Grid::new(5, 7, 2, nbpp, imode, 3, 2);
+            let grid = Grid::new(5, 7, 2, nbpp, imode, edges, 3, 2);
             for (row, column) in blocks(&grid) {
                 let data = largest(&grid, grid.block_shape(row, column).bytes(1));
                 assert_eq!(stored(&grid, (row, column), &data), 0);
@@ -238,7 +250,7 @@ fn ones_fit_at_byte_multiples_only() {
 
 #[test]
 fn skip_block_marks_and_keeps() {
-    let grid = Grid::new(1, 70, 1, 8, InterleaveMode::P, 1, 1);
+    let grid = Grid::new(1, 70, 1, 8, InterleaveMode::P, EdgeRule::Full, 1, 1);
     let image = exact(&[9; 70]);
     let mut marks = exact(&[0, 0, 5]);
     for (column, expected) in [(0, [1, 0, 5]), (63, [1 | 1 << 63, 0, 5]), (64, [1 | 1 << 63, 1, 5])] {
@@ -262,7 +274,7 @@ fn skip_block_refuses() {
 
 #[test]
 fn progress_counts_the_marks_of_the_grid() {
-    let grid = Grid::new(1, 70, 1, 8, InterleaveMode::S, 1, 1);
+    let grid = Grid::new(1, 70, 1, 8, InterleaveMode::S, EdgeRule::Full, 1, 1);
     for (marks, count) in [([0, 0], 0), ([u64::MAX, u64::MAX], 70), ([0b1011, 1 << 5], 4), ([0, 1 << 6], 0)] {
         assert_eq!(progress(&exact(&marks), &grid), Ok(count));
     }
@@ -287,7 +299,7 @@ fn finalize_names_the_first_unmarked_block() {
         assert_eq!(finalize(&image, &all_but_it, &grid), Err(Refusal::UnmarkedBlock { row, column }));
     }
     assert_eq!(finalize(&image, &exact(&[0b1111]), &grid), Ok(()));
-    let wide = Grid::new(2, 70, 1, 8, InterleaveMode::P, 1, 1);
+    let wide = Grid::new(2, 70, 1, 8, InterleaveMode::P, EdgeRule::Full, 1, 1);
     let marks = exact(&[u64::MAX, u64::MAX, !(1 << 11)]);
     assert_eq!(finalize(&exact(&[0; 140]), &marks, &wide), Err(Refusal::UnmarkedBlock { row: 1, column: 69 }));
 }

@@ -2,8 +2,8 @@
 //! subheader, computed here.
 
 use gezdunar::{
-    Grid, ImageCompression, ImageDataMask, ImageSubheader, InterleaveMode, Parsed, PixelJustification, PixelValueType,
-    Refusal, Shape, EMPTY_BLOCK_OFFSET,
+    EdgeRule, Grid, ImageCompression, ImageDataMask, ImageSubheader, InterleaveMode, Parsed, PixelJustification,
+    PixelValueType, Refusal, Shape, EMPTY_BLOCK_OFFSET,
 };
 
 /// A product of counts of an accepted grid.
@@ -34,6 +34,28 @@ fn last_actual(grid: &Grid, row: u32, column: u32) -> (usize, usize) {
     let rows = (grid.nrows - row * grid.nppbv).min(grid.nppbv);
     let columns = (grid.ncols - column * grid.nppbh).min(grid.nppbh);
     (rows as usize - 1, columns as usize - 1)
+}
+
+/// At a width that is no byte multiple: the first bit in the image of a sample, by its band, row and column in a block.
+/// The samples that the rule has in a block stand in the mode's order, cut into as many runs as there are bands.
+pub fn packed_bit(grid: &Grid, block: (u32, u32), [band, row, column]: [usize; 3]) -> usize {
+    let (last_row, last_column) = last_actual(grid, block.0, block.1);
+    let (rows, columns) = match grid.edges {
+        EdgeRule::Tight => (last_row + 1, last_column + 1),
+        EdgeRule::Full => (grid.nppbv as usize, grid.nppbh as usize),
+    };
+    let (index, t, bands) = (block_index(grid, block.0, block.1), band_bytes(grid), grid.bands as usize);
+    let place = match grid.imode {
+        InterleaveMode::B | InterleaveMode::S => (band * rows + row) * columns + column,
+        InterleaveMode::P => (row * columns + column) * bands + band,
+        InterleaveMode::R => (row * bands + band) * columns + column,
+    };
+    let run = place / (rows * columns);
+    let start = match grid.imode {
+        InterleaveMode::S => (run * blocks(grid) + index) * t,
+        _ => (index * bands + run) * t,
+    };
+    8 * start + place % (rows * columns) * grid.nbpp as usize
 }
 
 /// Where a block's last actual sample ends, or at a width that is no byte multiple the t bytes of its last run.
@@ -195,7 +217,13 @@ fn side(field: u32, blocks: u32, picture: u32) -> u32 {
     }
 }
 
-pub fn subheader_read(first: &[u8], second: &[u8], third: &[u8], bands: u32) -> Result<ImageSubheader, Refusal> {
+pub fn subheader_read(
+    first: &[u8],
+    second: &[u8],
+    third: &[u8],
+    bands: u32,
+    edges: EdgeRule,
+) -> Result<ImageSubheader, Refusal> {
     if (first.len(), second.len(), third.len()) != (38, 2, 19) {
         return Err(Refusal::SubheaderPart);
     }
@@ -206,7 +234,7 @@ pub fn subheader_read(first: &[u8], second: &[u8], third: &[u8], bands: u32) -> 
     let pjust = text(first, 37, 1)?.parse::<PixelJustification>()?;
     let ic = text(second, 0, 2)?.parse::<ImageCompression>()?;
     let imode = text(third, 0, 1)?.parse::<InterleaveMode>().map_err(|_| Refusal::NamedValue)?;
-    let grid = Grid { nrows, ncols, bands, nbpp, imode, nppbh, nppbv, nbpr, nbpc };
+    let grid = Grid { nrows, ncols, bands, nbpp, imode, edges, nppbh, nppbv, nbpr, nbpc };
     grid.check()?;
     let [irep, icat] = [19, 27].map(|from| std::array::from_fn(|i| first[from + i]));
     Ok(ImageSubheader { pvtype, irep, icat, abpp, pjust, ic, grid })

@@ -3,11 +3,18 @@
 
 pub mod expected;
 
-use gezdunar::{Grid, ImageCompression, ImageSubheader, InterleaveMode, PixelJustification, PixelValueType, Shape};
+use gezdunar::{
+    EdgeRule, Grid, ImageCompression, ImageSubheader, InterleaveMode, PixelJustification, PixelValueType, Shape,
+};
 
 /// The widths that question 2 takes.
 pub const WIDTHS: [u32; 29] =
     [1, 2, 3, 4, 5, 6, 7, 8, 9, 10, 11, 12, 13, 14, 15, 16, 24, 25, 26, 27, 28, 29, 30, 31, 32, 40, 48, 56, 64];
+
+/// Each mode with each edge rule.
+pub fn modes_and_rules() -> impl Iterator<Item = (InterleaveMode, EdgeRule)> {
+    InterleaveMode::ALL.into_iter().flat_map(|imode| EdgeRule::ALL.map(|edges| (imode, edges)))
+}
 
 /// A copy in an allocation of exact size, to be lent: an access beside it is seen. An empty one has no bytes at all.
 pub fn exact<T: Clone>(values: &[T]) -> Box<[T]> {
@@ -21,7 +28,7 @@ pub fn counting(length: usize) -> Box<[u8]> {
 
 /// Document 01's picture: 3 rows by 5 columns, blocks of 2 rows by 4 columns, 2 bands, NBPP 8.
 pub fn small(imode: InterleaveMode) -> Grid {
-    Grid::new(3, 5, 2, 8, imode, 4, 2)
+    Grid::new(3, 5, 2, 8, imode, EdgeRule::Full, 4, 2)
 }
 
 /// A grid for each number of questions 1 to 4.
@@ -31,7 +38,7 @@ pub fn refused_grids() -> [(Grid, u32); 4] {
         (Grid { bands: 0, ..grid }, 1),
         (Grid { nbpp: 17, ..grid }, 2),
         (Grid { nbpr: 1, ..grid }, 3),
-        (Grid::new(99_999, 99_999, 1, 8, InterleaveMode::P, 8192, 8192), 4),
+        (Grid::new(99_999, 99_999, 1, 8, InterleaveMode::P, EdgeRule::Full, 8192, 8192), 4),
     ]
 }
 

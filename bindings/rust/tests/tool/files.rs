@@ -2,7 +2,7 @@
 
 use crate::common::{counting, small};
 use crate::place::{options, Place, Ran};
-use gezdunar::{Grid, InterleaveMode};
+use gezdunar::{EdgeRule, Grid, InterleaveMode};
 use std::fs;
 use std::process::{Command, Stdio};
 
@@ -113,7 +113,7 @@ fn a_read_only_file_is_kept() {
 #[cfg(unix)]
 #[test]
 fn a_file_that_cannot_be_written_to_its_end_is_removed() {
-    let grid = Grid::new(1000, 1000, 1, 8, InterleaveMode::B, 1000, 1000);
+    let grid = Grid::new(1000, 1000, 1, 8, InterleaveMode::B, EdgeRule::Full, 1000, 1000);
     let place = Place::with("image", &vec![1; 1_000_000]);
     place.put("old", b"old");
     let read = format!("block --image image --row 0 --column 0 {}", options(&grid));
@@ -139,7 +139,7 @@ fn unread(place: &Place, words: &str) -> Ran {
 
 #[test]
 fn a_reader_that_goes_away_is_no_panic() {
-    let grid = Grid::new(1000, 1000, 1, 8, InterleaveMode::B, 1000, 1000);
+    let grid = Grid::new(1000, 1000, 1, 8, InterleaveMode::B, EdgeRule::Full, 1000, 1000);
     let place = Place::with("image", &vec![1; 1_000_000]);
     let read = format!("block --image image --row 0 --column 0 {}", options(&grid));
     for words in [format!("info {}", options(&grid)), "--help".to_owned(), format!("{read} --output raw")] {

@@ -2,7 +2,7 @@
 
 use crate::common::small;
 use crate::place::{options, Place};
-use gezdunar::{Grid, InterleaveMode};
+use gezdunar::{EdgeRule, Grid, InterleaveMode};
 
 /// The value of a line that begins so.
 fn value<'a>(text: &'a str, name: &str) -> &'a str {
@@ -41,11 +41,12 @@ fn the_sizes_of_a_small_picture() {
 
 #[test]
 fn the_sizes_at_12_bits() {
-    let grid = Grid::new(203, 317, 5, 12, InterleaveMode::S, 48, 64);
+    let grid = Grid::new(203, 317, 5, 12, InterleaveMode::S, EdgeRule::Full, 48, 64);
     let text = Place::new().run(&format!("info {}", options(&grid))).done();
     let names = ["bytes of a sample", "bytes of one band", "bytes of a block", "bytes of the image"];
     assert_eq!(names.map(|name| value(&text, name)), ["2", "4608", "23040", "645120"]);
     assert_eq!((value(&text, "actual rows"), value(&text, "actual columns")), ("11", "29"));
+    assert_eq!(value(&text, "edge rule, as given"), "full, whole blocks with zeros outside the picture");
 }
 
 /// Question 1.
@@ -53,7 +54,7 @@ const ONE: &str = "Are NROWS and NCOLS 1 to 99,999,999, NPPBH 1 to 8,192 or NCOL
 
 #[test]
 fn one_block_of_any_size() {
-    let grid = Grid::new(9_000, 10_000, 1, 1, InterleaveMode::B, 10_000, 9_000);
+    let grid = Grid::new(9_000, 10_000, 1, 1, InterleaveMode::B, EdgeRule::Full, 10_000, 9_000);
     let text = Place::new().run(&format!("info {}", options(&grid))).done();
     let names = ["rows of a block", "columns of a block", "blocks in all", "bytes of the image"];
     assert_eq!(names.map(|name| value(&text, name)), ["9000", "10000", "1", "11250000"]);
@@ -67,8 +68,18 @@ fn a_refused_grid_is_told_in_words() {
         (Grid { nppbh: 0, ..grid }, 1, ONE, "NPPBH 0, NPPBV 2, NBPR 0"),
         (Grid { nppbh: 8193, ..grid }, 1, ONE, "NPPBH 8193, NPPBV 2"),
         (Grid { nbpp: 17, ..grid }, 2, "Is NBPP 1 to 16, 24 to 32, 40, 48, 56 or 64?", "NBPP 17"),
-        (Grid::new(1, 10_000, 1, 8, InterleaveMode::B, 1, 1), 3, "Is NBPR = NCOLS / NPPBH", "NBPR 10000"),
-        (Grid::new(99_999, 99_999, 1, 8, InterleaveMode::P, 8192, 8192), 4, "Is the image at most", "NROWS 99999"),
+        (
+            Grid::new(1, 10_000, 1, 8, InterleaveMode::B, EdgeRule::Full, 1, 1),
+            3,
+            "Is NBPR = NCOLS / NPPBH",
+            "NBPR 10000",
+        ),
+        (
+            Grid::new(99_999, 99_999, 1, 8, InterleaveMode::P, EdgeRule::Full, 8192, 8192),
+            4,
+            "Is the image at most",
+            "NROWS 99999",
+        ),
     ];
     for (grid, number, question, fact) in cases {
         let told = format!("gezdunar info: refused with {number}: ");

@@ -4,6 +4,7 @@
 mod common;
 
 mod arguments;
+mod edges;
 mod files;
 mod info;
 mod mask;

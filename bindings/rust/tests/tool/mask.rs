@@ -2,7 +2,7 @@
 
 use crate::common::exact;
 use crate::place::{options, Place};
-use gezdunar::{mask_write_vec, Grid, ImageDataMask, InterleaveMode, EMPTY_BLOCK_OFFSET};
+use gezdunar::{mask_write_vec, EdgeRule, Grid, ImageDataMask, InterleaveMode, EMPTY_BLOCK_OFFSET};
 
 /// A table with block records, of 1 by 1 blocks.
 fn table(grid: &Grid, offsets: &[u32]) -> Vec<u8> {
@@ -11,7 +11,7 @@ fn table(grid: &Grid, offsets: &[u32]) -> Vec<u8> {
 }
 
 fn grid(rows: u32, columns: u32, bands: u32, imode: InterleaveMode) -> Grid {
-    Grid::new(rows, columns, bands, 8, imode, 1, 1)
+    Grid::new(rows, columns, bands, 8, imode, EdgeRule::Full, 1, 1)
 }
 
 #[test]

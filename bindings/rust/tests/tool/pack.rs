@@ -1,14 +1,14 @@
 //! `pack`.
 
-use crate::common::{block_samples, blocks, largest, samples};
+use crate::common::{block_samples, blocks, largest, modes_and_rules, samples};
 use crate::place::{options, Place};
-use gezdunar::{Frame, Grid, InterleaveMode};
+use gezdunar::{EdgeRule, Frame, Grid, InterleaveMode};
 
 const PACK: &str = "pack --input raw --output image";
 
 /// 7 rows by 11 columns, 3 bands of 12 bits, in blocks of 3 rows by 4 columns.
 fn odd(imode: InterleaveMode) -> Grid {
-    Grid::new(7, 11, 3, 12, imode, 4, 3)
+    Grid::new(7, 11, 3, 12, imode, EdgeRule::Full, 4, 3)
 }
 
 /// All samples of the plain picture.
@@ -30,12 +30,12 @@ fn image(grid: &Grid, skipped: &[(u32, u32)]) -> Vec<u8> {
 
 #[test]
 fn what_is_packed_comes_back_in_every_mode() {
-    for imode in InterleaveMode::ALL {
-        let grid = odd(imode);
+    for (imode, edges) in modes_and_rules() {
+        let grid = Grid { edges, ..odd(imode) };
         let place = Place::with("raw", &raw(&grid));
         let text = place.run(&format!("{PACK} {}", options(&grid))).done();
-        let words = format!("3 bands, 7 rows, 11 columns, 12 bits, mode {imode}: 9 blocks, 0 skipped, 486 bytes");
-        assert_eq!(text, format!("wrote image: {words}\n"));
+        let words = format!("3 bands, 7 rows, 11 columns, 12 bits, mode {imode}, edges {edges}");
+        assert_eq!(text, format!("wrote image: {words}: 9 blocks, 0 skipped, 486 bytes\n"));
         assert_eq!(place.get("image"), image(&grid, &[]));
         let window = "window --image image --output back --row 0 --column 0 --window-rows 7 --window-columns 11";
         place.run(&format!("{window} {}", options(&grid))).done();
@@ -50,10 +50,12 @@ fn what_is_packed_comes_back_in_every_mode() {
 #[test]
 fn every_width_is_packed() {
     for nbpp in crate::common::WIDTHS {
-        let grid = Grid { nbpp, ..odd(InterleaveMode::R) };
-        let place = Place::with("raw", &raw(&grid));
-        place.run(&format!("{PACK} {}", options(&grid))).done();
-        assert_eq!(place.get("image"), image(&grid, &[]), "{nbpp}");
+        for edges in EdgeRule::ALL {
+            let grid = Grid { nbpp, edges, ..odd(InterleaveMode::R) };
+            let place = Place::with("raw", &raw(&grid));
+            place.run(&format!("{PACK} {}", options(&grid))).done();
+            assert_eq!(place.get("image"), image(&grid, &[]), "{nbpp}");
+        }
     }
 }
 

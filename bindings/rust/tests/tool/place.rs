@@ -78,7 +78,15 @@ fn unquoted(word: &str) -> &str {
 pub fn options(grid: &Grid) -> String {
     let Grid { nrows, ncols, bands, nbpp, imode, nppbh, nppbv, .. } = grid;
     let block = format!("--block-rows {nppbv} --block-columns {nppbh}");
-    format!(" --rows {nrows} --columns {ncols} --bands {bands} --bits {nbpp} --mode {imode} {block} ")
+    format!(" --rows {nrows} --columns {ncols} --bands {bands} --bits {nbpp} --mode {imode} {block} {}", rule(grid))
+}
+
+/// The option of a grid's edge rule, where it must be given.
+fn rule(grid: &Grid) -> String {
+    if grid.nbpp.is_multiple_of(8) {
+        return String::new();
+    }
+    format!("--edges {} ", grid.edges)
 }
 
 /// Bytes in hexadecimal.
@@ -89,7 +97,8 @@ pub fn hex(bytes: &[u8]) -> String {
 /// The options of a grid by the parts of a subheader, in hexadecimal.
 pub fn parts(subheader: &ImageSubheader) -> String {
     let (first, second, third) = subheader.to_parts().expect("the subheader is accepted");
-    format!(" --bands {} --parts {},{},{} ", subheader.grid.bands, hex(&first), hex(&second), hex(&third))
+    let parts = [hex(&first), hex(&second), hex(&third)].join(",");
+    format!(" --bands {} --parts {parts} {}", subheader.grid.bands, rule(&subheader.grid))
 }
 
 /// What a run left.

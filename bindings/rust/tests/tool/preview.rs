@@ -2,7 +2,7 @@
 
 use crate::common::{counting, small};
 use crate::place::{options, Place};
-use gezdunar::{Grid, InterleaveMode};
+use gezdunar::{EdgeRule, Grid, InterleaveMode};
 
 /// A window on the whole of document 01's picture.
 fn whole(imode: InterleaveMode) -> String {
@@ -37,7 +37,7 @@ fn samples_are_scaled_by_their_width() {
         (16, &[0xFF, 0xFF, 0x01, 0x00, 0x00, 0x00, 0x00, 0xFF], &[255, 1, 0, 1]),
     ];
     for (nbpp, image, pixels) in cases {
-        let grid = Grid::new(1, 4, 1, nbpp, InterleaveMode::B, 4, 1);
+        let grid = Grid::new(1, 4, 1, nbpp, InterleaveMode::B, EdgeRule::Full, 4, 1);
         let place = Place::with("image", image);
         place.run(&format!("block --image image --row 0 --column 0 {} --preview p", options(&grid))).done();
         assert_eq!(place.get("p"), [&b"P5\n4 1\n255\n"[..], pixels].concat(), "{nbpp}");
@@ -46,7 +46,7 @@ fn samples_are_scaled_by_their_width() {
 
 #[test]
 fn a_stretch_reaches_from_0_to_255_in_each_band() {
-    let grid = Grid::new(1, 3, 3, 8, InterleaveMode::B, 3, 1);
+    let grid = Grid::new(1, 3, 3, 8, InterleaveMode::B, EdgeRule::Full, 3, 1);
     let place = Place::with("image", &[10, 20, 30, 5, 5, 5, 0, 255, 51]);
     let block = format!("block --image image --row 0 --column 0 {} --preview p", options(&grid));
     place.run(&format!("{block} --stretch")).done();

@@ -1,8 +1,8 @@
 //! `block` and `window`.
 
-use crate::common::{counting, samples, small};
+use crate::common::{counting, modes_and_rules, samples, small};
 use crate::place::{options, Place};
-use gezdunar::{Frame, Grid, InterleaveMode};
+use gezdunar::{EdgeRule, Frame, Grid, InterleaveMode};
 
 const CORNER: &str = "block --image image --row 1 --column 1";
 
@@ -116,12 +116,12 @@ fn samples_on_standard_output() {
 
 #[test]
 fn numbers_of_every_size_are_printed_and_not_too_many() {
-    let grid = Grid::new(1, 2, 1, 64, InterleaveMode::B, 2, 1);
+    let grid = Grid::new(1, 2, 1, 64, InterleaveMode::B, EdgeRule::Full, 2, 1);
     let place = Place::with("image", &[255, 255, 255, 255, 255, 255, 255, 255, 0, 0, 0, 0, 0, 0, 1, 2]);
     let text = place.run(&format!("block --image image --row 0 --column 0 {}", options(&grid))).done();
     assert!(text.ends_with("band 0:\n 18446744073709551615                  258\n"), "{text}");
     for (columns, printed) in [(1024, true), (1025, false)] {
-        let grid = Grid::new(1, columns, 1, 8, InterleaveMode::B, 2000, 1);
+        let grid = Grid::new(1, columns, 1, 8, InterleaveMode::B, EdgeRule::Full, 2000, 1);
         let place = Place::with("image", &[7; 2000]);
         let text = place.run(&format!("block --image image --row 0 --column 0 {}", options(&grid))).done();
         assert_eq!(text.contains(" 7 7 7"), printed, "{text}");
@@ -131,8 +131,8 @@ fn numbers_of_every_size_are_printed_and_not_too_many() {
 
 #[test]
 fn the_lower_right_block_at_12_bits() {
-    for imode in InterleaveMode::ALL {
-        let grid = Grid::new(7, 11, 3, 12, imode, 4, 3);
+    for (imode, edges) in modes_and_rules() {
+        let grid = Grid::new(7, 11, 3, 12, imode, edges, 4, 3);
         let mut frame = Frame::new(grid).expect("the grid is accepted");
         for (row, column) in crate::common::blocks(&grid) {
             let data = crate::common::block_samples(&grid, &[0, 1, 2], row, column);

@@ -2,14 +2,15 @@
 
 use crate::common::{counting, small, subheader};
 use crate::place::{hex, options, parts, Place};
-use gezdunar::{mask_write_vec, Grid, ImageCompression, ImageDataMask, ImageSubheader, InterleaveMode};
+use gezdunar::{mask_write_vec, EdgeRule, Grid, ImageCompression, ImageDataMask, ImageSubheader, InterleaveMode};
 
 const FIRST: &str = "0000020300000317INTMULTI   MS      12R";
 const THIRD: &str = "P000700040048006412";
 
 /// The options of these parts, in hexadecimal.
 fn written(first: &str, second: &str, third: &str) -> String {
-    format!(" --bands 5 --parts {},{},{} ", hex(first.as_bytes()), hex(second.as_bytes()), hex(third.as_bytes()))
+    let parts = [first, second, third].map(|part| hex(part.as_bytes())).join(",");
+    format!(" --bands 5 --edges full --parts {parts} ")
 }
 
 /// A file with the parts of a subheader at bytes 7, 50 and 60.
@@ -36,12 +37,13 @@ blocks down (NBPC)                  4
 columns of a block (NPPBH)          48
 rows of a block (NPPBV)             64
 bits of a sample (NBPP)             12
+edge rule, as given                 full, whole blocks with zeros outside the picture
 ";
     let place = Place::with("parts", format!("{FIRST}NC{THIRD}").as_bytes());
     let hexadecimal = written(FIRST, "NC", THIRD);
     assert_eq!(place.run(&format!("subheader {hexadecimal}")).done(), expected);
     assert_eq!(place.run(&format!("subheader {}", hexadecimal.to_lowercase())).done(), expected);
-    let offsets = "subheader --bands 5 --part-offsets 0,38,40 --parts-file parts";
+    let offsets = "subheader --bands 5 --edges full --part-offsets 0,38,40 --parts-file parts";
     assert_eq!(place.run(offsets).done(), expected);
 }
 
@@ -262,7 +264,7 @@ fn the_parts_may_stand_in_the_commands_own_file() {
 
 #[test]
 fn a_block_side_above_8_192_from_the_parts() {
-    let grid = Grid::new(2, 9_000, 1, 8, InterleaveMode::B, 9_000, 2);
+    let grid = Grid::new(2, 9_000, 1, 8, InterleaveMode::B, EdgeRule::Full, 9_000, 2);
     let place = Place::with("raw", &counting(18_000));
     for words in [parts(&subheader(grid)), options(&grid)] {
         let text = place.run(&format!("pack --input raw --output image {words}")).done();
@@ -285,8 +287,21 @@ fn a_file_that_gdal_wrote() {
     );
     assert!(text.contains("'MONO    '\n") && text.contains("'VIS     '\n"), "{text}");
     let window = "window --image 16.ntf --offset 856 --row 0 --column 0 --window-rows 13 --window-columns 19";
-    let grid = options(&Grid::new(13, 19, 2, 16, InterleaveMode::B, 8, 4));
+    let grid = options(&Grid::new(13, 19, 2, 16, InterleaveMode::B, EdgeRule::Full, 8, 4));
     assert_eq!(place.run(&format!("{window} {offsets}")).done(), place.run(&format!("{window} {grid}")).done());
+}
+
+/// Two rows of a block of which three columns are in the picture, as GDAL reads them; under tight they are others.
+#[test]
+fn packed_edge_blocks_as_gdal_reads_them() {
+    let place = Place::with("12.ntf", include_bytes!("../../../../crates/gdal_images/data/12.ntf"));
+    let window = "window --image 12.ntf --offset 856 --row 5 --column 16 --window-rows 2 --window-columns 3 \
+                  --bands 2 --part-offsets 737,777,807";
+    let text = place.run(&format!("{window} --edges full")).done();
+    let read = "band 0:\n  763 2350 2070\n 3169  336 1916\nband 1:\n  740 2048 2707\n 1164 3645 1924\n";
+    assert!(text.ends_with(read), "{text}");
+    assert_ne!(place.run(&format!("{window} --edges tight")).done(), text);
+    place.run(window).failed(2, &["--edges is missing: at 12 bits"]);
 }
 
 #[test]
@@ -363,6 +378,6 @@ fn the_parts_in_the_examples_are_accepted() {
         let parts = text.split('\'').next().unwrap_or_default();
         assert_eq!(parts.len(), 59, "{command}");
         place.put("parts", parts.as_bytes());
-        place.run(&format!("subheader --bands {bands} --part-offsets 0,38,40 --parts-file parts")).done();
+        place.run(&format!("subheader --bands {bands} --edges full --part-offsets 0,38,40 --parts-file parts")).done();
     }
 }

@@ -15,11 +15,11 @@ commands:
 ";
 
 const TAIL: &str = "
-A picture is described by its grid: rows, columns, bands, bits of a sample, mode
-and the sides of a block. All of it is given as options, or the bands as an
-option and the rest by three parts of an image subheader; nothing is guessed. An
-option is written --name VALUE or --name=VALUE. Rows, columns, bands and blocks
-are counted from 0.
+A picture is described by its grid: rows, columns, bands, bits of a sample,
+mode, edge rule and the sides of a block. All of it is given as options, or the
+bands and the edge rule as options and the rest by three parts of an image
+subheader; nothing is guessed. An option is written --name VALUE or
+--name=VALUE. Rows, columns, bands and blocks are counted from 0.
 
 exit codes: 0  done
             1  refused: the number, its question and the facts are printed

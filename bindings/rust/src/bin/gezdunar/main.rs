@@ -5,6 +5,7 @@
 mod answer;
 mod arguments;
 mod commands;
+mod edges;
 mod failure;
 mod files;
 mod help;

@@ -3,7 +3,9 @@
 use crate::arguments::{missing_one, offsets, optional, Given, Known};
 use crate::failure::Failure;
 use crate::files;
-use gezdunar::{ImageCompression, ImageSubheader, InterleaveMode, PixelJustification, PixelValueType, Refusal};
+use gezdunar::{
+    EdgeRule, ImageCompression, ImageSubheader, InterleaveMode, PixelJustification, PixelValueType, Refusal,
+};
 use std::ffi::OsStr;
 use std::str::{self, FromStr};
 
@@ -28,11 +30,11 @@ parts of an image subheader:
   --parts-file FILE   the file of these offsets; if not given, the file that
                       holds the image or the mask table; info, pack and
                       subheader read neither and need it
-  The parts do not hold the count of bands. An NPPBH of 0000 with NBPR 1 stands
-  for all columns, an NPPBV of 0000 with NBPC 1 for all rows. Parts that are not
-  accepted are refused with 23 or 24, their grid with 1, 2, 3 or 4. With IC NM
-  the picture is masked: info, mask and subheader take such parts, and block,
-  window and pack do not.
+  The parts hold neither the count of bands nor the edge rule. An NPPBH of 0000
+  with NBPR 1 stands for all columns, an NPPBV of 0000 with NBPC 1 for all rows.
+  Parts that are not accepted are refused with 23 or 24, their grid with 1, 2, 3
+  or 4. With IC NM the picture is masked: info, mask and subheader take such
+  parts, and block, window and pack do not.
 ";
 
 /// The lengths that the library takes.
@@ -90,10 +92,10 @@ impl Parts {
         }
     }
 
-    /// The fields, for a picture of so many bands.
-    pub fn subheader(&self, bands: u32) -> Result<ImageSubheader, Failure> {
+    /// The fields, for a picture of so many bands under an edge rule.
+    pub fn subheader(&self, bands: u32, edges: EdgeRule) -> Result<ImageSubheader, Failure> {
         let [first, second, third] = &self.bytes;
-        ImageSubheader::read(first, second, third, bands)
+        ImageSubheader::read(first, second, third, bands, edges)
             .map_err(|refusal| Failure::Refused(refusal, format!("{}{}", self.source, self.facts(refusal, bands))))
     }
 

@@ -1,10 +1,11 @@
 //! The grid, from its options or from parts of a subheader.
 
 use crate::arguments::{required, Given, Known};
+use crate::edges::{self, Edges};
 use crate::failure::Failure;
 use crate::parts::{self, Parts};
 use crate::words::count;
-use gezdunar::{Grid, ImageCompression, InterleaveMode, Refusal, Sizes};
+use gezdunar::{EdgeRule, Grid, ImageCompression, InterleaveMode, Refusal, Sizes};
 
 /// The options of a grid.
 pub const OPTIONS: [Known; 7] = [
@@ -19,7 +20,8 @@ pub const OPTIONS: [Known; 7] = [
 
 /// What help says of a grid.
 pub const HELP: &str = "\
-grid (all seven options, or --bands with the parts of a subheader):
+grid (all seven options, or --bands with the parts of a subheader, and in both
+cases the edge rule):
   --rows N            rows of the picture (NROWS), 1 to 99,999,999
   --columns N         columns of the picture (NCOLS), 1 to 99,999,999
   --bands N           bands of the picture, 1 to 99,999
@@ -33,9 +35,6 @@ grid (all seven options, or --bands with the parts of a subheader):
   --block-rows N      rows of a block (NPPBV), 1 to 8,192, or as many as --rows
   --block-columns N   columns of a block (NPPBH), 1 to 8,192, or as many as
                       --columns
-  Where the bits are no multiple of 8, a block at the right or lower edge holds
-  only its samples inside the picture, without gaps between rows; the standard
-  keeps full rows there.
 ";
 
 /// A grid that was accepted, and its sizes.
@@ -52,16 +51,16 @@ pub struct Picture {
 impl Picture {
     /// The grid that the options give, or the parts that they name.
     pub fn new(given: &Given) -> Result<Picture, Failure> {
+        let edges = Edges::new(given)?;
         let (grid, masked) = if parts::NAMES.iter().any(|name| given.has(name)) {
-            let subheader = Parts::new(given)?.subheader(given.number("--bands")?)?;
+            let subheader = Parts::new(given)?.subheader(given.number("--bands")?, edges.rule())?;
             (subheader.grid, subheader.ic == ImageCompression::NM)
         } else {
-            (grid(given)?, false)
+            (grid(given, edges.rule())?, false)
         };
-        match grid.sizes() {
-            Ok(sizes) => Ok(Picture { grid, sizes, masked }),
-            Err(refusal) => Err(Failure::Refused(refusal, fields(&grid))),
-        }
+        let sizes = grid.sizes().map_err(|refusal| Failure::Refused(refusal, fields(&grid)))?;
+        edges.check(grid.nbpp)?;
+        Ok(Picture { grid, sizes, masked })
     }
 
     /// The same for a command that takes an image: a masked picture's blocks do not lie where the grid has them.
@@ -104,20 +103,22 @@ impl Picture {
 
     /// The grid in a few words.
     pub fn words(&self) -> String {
-        let Grid { nrows, ncols, bands, nbpp, imode, .. } = self.grid;
+        let Grid { nrows, ncols, bands, nbpp, imode, edges, .. } = self.grid;
         let sides = [count(bands as usize, "band"), count(nrows as usize, "row"), count(ncols as usize, "column")];
-        format!("{}, {}, mode {imode}", sides.join(", "), count(nbpp as usize, "bit"))
+        let rule = if edges::matter(nbpp) { format!(", edges {edges}") } else { String::new() };
+        format!("{}, {}, mode {imode}{rule}", sides.join(", "), count(nbpp as usize, "bit"))
     }
 }
 
-/// The grid of the seven options.
-fn grid(given: &Given) -> Result<Grid, Failure> {
+/// The grid of the seven options, under an edge rule.
+fn grid(given: &Given, edges: EdgeRule) -> Result<Grid, Failure> {
     Ok(Grid::new(
         given.number("--rows")?,
         given.number("--columns")?,
         given.number("--bands")?,
         given.number("--bits")?,
         mode(given)?,
+        edges,
         given.number("--block-columns")?,
         given.number("--block-rows")?,
     ))
@@ -131,7 +132,7 @@ fn mode(given: &Given) -> Result<InterleaveMode, Failure> {
 
 /// The fields of a grid, for a refusal.
 fn fields(grid: &Grid) -> String {
-    let Grid { nrows, ncols, bands, nbpp, imode, nppbh, nppbv, nbpr, nbpc } = grid;
+    let Grid { nrows, ncols, bands, nbpp, imode, nppbh, nppbv, nbpr, nbpc, .. } = grid;
     format!(
         "the grid: NROWS {nrows}, NCOLS {ncols}, bands {bands}, NBPP {nbpp}, IMODE {imode}, \
          NPPBH {nppbh}, NPPBV {nppbv}, NBPR {nbpr}, NBPC {nbpc}"

@@ -3,6 +3,7 @@
 use super::Command;
 use crate::answer::{self, Answer};
 use crate::arguments::{required, Given, Known};
+use crate::edges;
 use crate::failure::Failure;
 use crate::image::{self, Image};
 use crate::parts;
@@ -12,8 +13,8 @@ use gezdunar::decode_block_vec;
 pub const COMMAND: Command = Command {
     name: "block",
     summary: "reads one block of an image",
-    help: &[HEAD, picture::HELP, parts::HELP, image::HELP, answer::HELP, EXAMPLE],
-    options: &[&OPTIONS, &picture::OPTIONS, &parts::OPTIONS, &image::OPTIONS, &answer::OPTIONS],
+    help: &[HEAD, picture::HELP, edges::HELP, parts::HELP, image::HELP, answer::HELP, EXAMPLE],
+    options: &[&OPTIONS, &picture::OPTIONS, &edges::OPTIONS, &parts::OPTIONS, &image::OPTIONS, &answer::OPTIONS],
     run,
 };
 
@@ -32,11 +33,12 @@ const EXAMPLE: &str = "\
 example, band 2 of the lower right block to look at:
   gezdunar block --row 3 --column 6 --list 2 --preview corner.pgm \\
     --image picture.P --rows 203 --columns 317 --bands 5 --bits 12 --mode P \\
-    --block-rows 64 --block-columns 48
+    --block-rows 64 --block-columns 48 --edges full
 the same block, with the grid from the parts of a subheader:
   printf '0000020300000317INTMULTI   MS      12RNCP000700040048006412' > parts
   gezdunar block --row 3 --column 6 --list 2 --preview corner.pgm \\
-    --image picture.P --bands 5 --part-offsets 0,38,40 --parts-file parts
+    --image picture.P --bands 5 --edges full --part-offsets 0,38,40 \\
+    --parts-file parts
 ";
 
 fn run(given: &Given) -> Result<(), Failure> {

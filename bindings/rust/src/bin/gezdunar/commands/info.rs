@@ -2,6 +2,7 @@
 
 use super::Command;
 use crate::arguments::Given;
+use crate::edges;
 use crate::failure::Failure;
 use crate::parts;
 use crate::picture::{self, Picture};
@@ -11,8 +12,8 @@ use crate::words::{lines, mode};
 pub const COMMAND: Command = Command {
     name: "info",
     summary: "shows the blocks and bytes of a grid",
-    help: &[HEAD, picture::HELP, parts::HELP, EXAMPLE],
-    options: &[&picture::OPTIONS, &parts::OPTIONS],
+    help: &[HEAD, picture::HELP, edges::HELP, parts::HELP, EXAMPLE],
+    options: &[&picture::OPTIONS, &edges::OPTIONS, &parts::OPTIONS],
     run,
 };
 
@@ -26,16 +27,18 @@ not accepted is refused with 1, 2, 3 or 4.
 const EXAMPLE: &str = "\
 example:
   gezdunar info --rows 203 --columns 317 --bands 5 --bits 12 --mode P \\
-    --block-rows 64 --block-columns 48
+    --block-rows 64 --block-columns 48 --edges full
 the same, with the grid from the parts of a subheader:
   printf '0000020300000317INTMULTI   MS      12RNCP000700040048006412' > parts
-  gezdunar info --bands 5 --part-offsets 0,38,40 --parts-file parts
+  gezdunar info --bands 5 --edges full --part-offsets 0,38,40 \\
+    --parts-file parts
 ";
 
 fn run(given: &Given) -> Result<(), Failure> {
     let picture = Picture::new(given)?;
     let masked = picture.masked.then(|| ("mask (IC)", "NM, masked; the bytes are those of all blocks".to_owned()));
-    streams::print(&lines(shape(&picture).into_iter().chain(bytes(&picture)).chain(masked)))
+    let rule = edges::fact(&picture.grid);
+    streams::print(&lines(shape(&picture).into_iter().chain(rule).chain(bytes(&picture)).chain(masked)))
 }
 
 /// The picture and its blocks.

@@ -2,6 +2,7 @@
 
 use super::Command;
 use crate::arguments::{flag, optional, required, Given, Known};
+use crate::edges;
 use crate::failure::Failure;
 use crate::parts;
 use crate::picture::{self, Picture};
@@ -12,8 +13,8 @@ use std::path::Path;
 pub const COMMAND: Command = Command {
     name: "mask",
     summary: "shows an image data mask table",
-    help: &[HEAD, picture::HELP, parts::HELP, EXAMPLE],
-    options: &[&OPTIONS, &picture::OPTIONS, &parts::OPTIONS],
+    help: &[HEAD, picture::HELP, edges::HELP, parts::HELP, EXAMPLE],
+    options: &[&OPTIONS, &picture::OPTIONS, &edges::OPTIONS, &parts::OPTIONS],
     run,
 };
 

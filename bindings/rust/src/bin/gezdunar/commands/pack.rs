@@ -2,6 +2,7 @@
 
 use super::Command;
 use crate::arguments::{optional, pair, repeated, required, Given, Known};
+use crate::edges;
 use crate::failure::Failure;
 use crate::files;
 use crate::output::Output;
@@ -19,8 +20,8 @@ use std::path::{Path, PathBuf};
 pub const COMMAND: Command = Command {
     name: "pack",
     summary: "writes a picture's samples into a blocked image",
-    help: &[HEAD, picture::HELP, parts::HELP, TAIL],
-    options: &[&OPTIONS, &picture::OPTIONS, &parts::OPTIONS],
+    help: &[HEAD, picture::HELP, edges::HELP, parts::HELP, TAIL],
+    options: &[&OPTIONS, &picture::OPTIONS, &edges::OPTIONS, &parts::OPTIONS],
     run,
 };
 
@@ -53,11 +54,11 @@ and one row of blocks are held in memory.
 example:
   gezdunar pack --input picture.raw --output picture.P \\
     --rows 203 --columns 317 --bands 5 --bits 12 --mode P \\
-    --block-rows 64 --block-columns 48
+    --block-rows 64 --block-columns 48 --edges full
 the same, with the grid from the parts of a subheader:
   printf '0000020300000317INTMULTI   MS      12RNCP000700040048006412' > parts
   gezdunar pack --input picture.raw --output picture.P \\
-    --bands 5 --part-offsets 0,38,40 --parts-file parts
+    --bands 5 --edges full --part-offsets 0,38,40 --parts-file parts
 ";
 
 fn run(given: &Given) -> Result<(), Failure> {

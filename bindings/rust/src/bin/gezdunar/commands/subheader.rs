@@ -2,6 +2,7 @@
 
 use super::Command;
 use crate::arguments::{required, Given, Known};
+use crate::edges::{self, Edges};
 use crate::failure::Failure;
 use crate::parts::{self, Parts, NPPBH, NPPBV};
 use crate::streams;
@@ -11,16 +12,17 @@ use gezdunar::{ImageCompression, ImageSubheader, PixelJustification, PixelValueT
 pub const COMMAND: Command = Command {
     name: "subheader",
     summary: "shows the fields of three parts of an image subheader",
-    help: &[HEAD, parts::HELP, EXAMPLE],
-    options: &[&OPTIONS, &parts::OPTIONS],
+    help: &[HEAD, edges::HELP, parts::HELP, EXAMPLE],
+    options: &[&OPTIONS, &edges::OPTIONS, &parts::OPTIONS],
     run,
 };
 
 const OPTIONS: [Known; 1] = [required("--bands")];
 
 const HEAD: &str = "\
-usage: gezdunar subheader --bands N --parts A,B,C
-       gezdunar subheader --bands N --part-offsets A,B,C --parts-file FILE
+usage: gezdunar subheader --bands N [--edges RULE] --parts A,B,C
+       gezdunar subheader --bands N [--edges RULE] --part-offsets A,B,C
+         --parts-file FILE
 
   --bands N           bands of the picture, 1 to 99,999
 
@@ -31,13 +33,16 @@ as they stand; a byte that is no printable character is written as in \\x00.
 const EXAMPLE: &str = "\
 example, the parts one after the other in a file:
   printf '0000020300000317INTMULTI   MS      12RNCP000700040048006412' > parts
-  gezdunar subheader --bands 5 --part-offsets 0,38,40 --parts-file parts
+  gezdunar subheader --bands 5 --edges full --part-offsets 0,38,40 \\
+    --parts-file parts
 ";
 
 fn run(given: &Given) -> Result<(), Failure> {
-    let parts = Parts::new(given)?;
-    let subheader = parts.subheader(given.number("--bands")?)?;
-    streams::print(&lines(first(&subheader).into_iter().chain(rest(&subheader, &parts))))
+    let (edges, parts) = (Edges::new(given)?, Parts::new(given)?);
+    let subheader = parts.subheader(given.number("--bands")?, edges.rule())?;
+    edges.check(subheader.grid.nbpp)?;
+    let rule = edges::fact(&subheader.grid);
+    streams::print(&lines(first(&subheader).into_iter().chain(rest(&subheader, &parts)).chain(rule)))
 }
 
 /// The fields of the first part.

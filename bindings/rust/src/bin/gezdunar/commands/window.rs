@@ -3,6 +3,7 @@
 use super::Command;
 use crate::answer::{self, Answer};
 use crate::arguments::{required, Given, Known};
+use crate::edges;
 use crate::failure::Failure;
 use crate::image::{self, Image};
 use crate::parts;
@@ -12,8 +13,8 @@ use gezdunar::{read_window_vec, Window};
 pub const COMMAND: Command = Command {
     name: "window",
     summary: "reads a rectangle of the picture, across blocks",
-    help: &[HEAD, picture::HELP, parts::HELP, image::HELP, answer::HELP, EXAMPLE],
-    options: &[&OPTIONS, &picture::OPTIONS, &parts::OPTIONS, &image::OPTIONS, &answer::OPTIONS],
+    help: &[HEAD, picture::HELP, edges::HELP, parts::HELP, image::HELP, answer::HELP, EXAMPLE],
+    options: &[&OPTIONS, &picture::OPTIONS, &edges::OPTIONS, &parts::OPTIONS, &image::OPTIONS, &answer::OPTIONS],
     run,
 };
 
@@ -35,12 +36,12 @@ example, 40 rows and 60 columns in colour:
   gezdunar window --row 100 --column 90 --window-rows 40 --window-columns 60 \\
     --list 4,2,0 --preview window.ppm --image picture.P \\
     --rows 203 --columns 317 --bands 5 --bits 12 --mode P \\
-    --block-rows 64 --block-columns 48
+    --block-rows 64 --block-columns 48 --edges full
 the same window of a NITF file, in which the image subheader begins at byte 404
 and the image at byte 895, with the grid from that subheader:
   gezdunar window --row 100 --column 90 --window-rows 40 --window-columns 60 \\
     --list 4,2,0 --preview window.ppm --image picture.ntf --offset 895 \\
-    --bands 5 --part-offsets 737,777,846
+    --bands 5 --edges full --part-offsets 737,777,846
 ";
 
 fn run(given: &Given) -> Result<(), Failure> {
