@@ -1,6 +1,6 @@
 //! A case is one call, or for a frame a list of calls, with everything that it is handed.
 
-use crate::{Grid, Lent, Mode, Subheader};
+use crate::{Edges, Grid, Lent, Mode, Subheader};
 
 #[derive(Clone, Debug, PartialEq)]
 pub enum Case {
@@ -27,7 +27,7 @@ pub enum Case {
         area: Area,
         bands: Option<Vec<u32>>,
     },
-    /// A start and the calls after it.
+    /// A start and the calls after it; or the calls alone, see `Lent`.
     Frame {
         grid: Grid,
         calls: Vec<Call>,
@@ -74,15 +74,16 @@ pub enum Case {
         tile: u32,
         parallel: bool,
     },
-    /// Three parts of an image subheader, and the count of bands.
+    /// Three parts of an image subheader, the count of bands and the edge rule.
     ReadSubheader {
         parts: [Vec<u8>; 3],
         bands: u32,
+        edges: Edges,
     },
     WriteSubheader {
         subheader: Subheader,
     },
-    /// One of the others, with lent buffers of these lengths.
+    /// One of the others, with these lent buffers.
     Lent {
         case: Box<Case>,
         lent: Lent,
@@ -143,9 +144,9 @@ pub struct Pack {
 /// | subheader write | none | the three parts |
 ///
 /// In a frame the two values are the count for progress, and row and column for a finish with 15.
-/// PVTYPE, PJUST and IC are given by their place in `ALL`, IMODE by its letter. Words are big-endian. The
-/// samples, tables, words and parts are the lent outputs, the image and the mark words the lent buffers:
-/// whole, as the calls left them.
+/// PVTYPE, PJUST, IC and the edge rule are given by their place in `ALL`, IMODE by its letter. Words are
+/// big-endian. The samples, tables, words and parts are the lent outputs, the image and the mark words the
+/// lent buffers: whole, as the calls left them.
 #[derive(Clone, Debug, Default, PartialEq)]
 pub struct Answer {
     pub number: u8,
@@ -251,12 +252,57 @@ impl Case {
         }
     }
 
-    /// The case without the lengths of its lent buffers.
+    /// The case without its lent buffers.
     pub fn call(&self) -> &Case {
         match self {
             Case::Lent { case, .. } => case,
             case => case,
         }
+    }
+
+    /// The grid that the call is handed, if it takes one.
+    pub fn grid(&self) -> Option<&Grid> {
+        match self.call() {
+            Case::Read { grid, .. }
+            | Case::Whole { grid, .. }
+            | Case::Window { grid, .. }
+            | Case::Frame { grid, .. }
+            | Case::Parse { grid, .. }
+            | Case::Rewrite { grid, .. }
+            | Case::MaskWrite { grid, .. }
+            | Case::Lookup { grid, .. }
+            | Case::FromMarks { grid, .. }
+            | Case::WriteSubheader { subheader: Subheader { grid, .. } } => Some(grid),
+            _ => None,
+        }
+    }
+
+    /// The same, to be changed.
+    pub fn grid_mut(&mut self) -> Option<&mut Grid> {
+        match self {
+            Case::Lent { case, .. } => case.grid_mut(),
+            Case::Read { grid, .. }
+            | Case::Whole { grid, .. }
+            | Case::Window { grid, .. }
+            | Case::Frame { grid, .. }
+            | Case::Parse { grid, .. }
+            | Case::Rewrite { grid, .. }
+            | Case::MaskWrite { grid, .. }
+            | Case::Lookup { grid, .. }
+            | Case::FromMarks { grid, .. }
+            | Case::WriteSubheader { subheader: Subheader { grid, .. } } => Some(grid),
+            _ => None,
+        }
+    }
+
+    /// The case under an edge rule, if it has one.
+    pub fn under(mut self, edges: Edges) -> Case {
+        if let Case::ReadSubheader { edges: given, .. } = &mut self {
+            *given = edges;
+        } else if let Some(grid) = self.grid_mut() {
+            grid.edges = edges;
+        }
+        self
     }
 }
 

@@ -3,7 +3,7 @@
 use std::collections::BTreeMap;
 use std::fmt;
 
-use crate::{generate, shrink, Answer, Case, Kind, Size, Source};
+use crate::{generate, shrink, Answer, Case, Kind, Lent, Size, Source};
 
 /// Accepted and refused calls by kind of call and number.
 #[derive(Default)]
@@ -14,10 +14,12 @@ impl Tally {
         *self.0.entry(name).or_default().entry(number).or_default() += 1;
     }
 
-    /// Counts a case, or for a frame its start and each of its calls.
+    /// Counts a case, or for a frame its start, if it has one, and each of its calls.
     fn case(&mut self, case: &Case, answer: &Answer) {
         if let Case::Frame { calls, .. } = case.call() {
-            self.count("start", answer.number);
+            if !Lent::of(case).no_start {
+                self.count("start", answer.number);
+            }
             for (call, values) in calls.iter().zip(answer.values.chunks(3)) {
                 self.count(call.name(), values[0] as u8);
             }

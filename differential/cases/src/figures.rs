@@ -1,6 +1,7 @@
-//! Document 01's figures as cases with the answers that it gives, and that document 02 gives to figure k's last sample.
+//! Document 01's figures as cases with the answers that it gives, and that document 02 gives to figure k's last sample
+//! and to figure m under the edge rule full.
 
-use crate::{Answer, Call, Case, Grid, Header, Mode};
+use crate::{Answer, Call, Case, Edges, Grid, Header, Mode};
 
 /// A figure's letter, its case and the documents' answer.
 pub struct Figure {
@@ -10,9 +11,10 @@ pub struct Figure {
 }
 
 impl Figure {
-    /// Is it on the compared domain? An empty list of bands is not, nor a sample with a bit above NBPP.
+    /// Is it on the compared domain? Not with an empty list of bands, a sample with a bit above NBPP, or the rule full.
     pub fn is_compared(&self) -> bool {
-        self.letter != 'j' && !self.answer.values.contains(&26)
+        let full = self.case.grid().is_some_and(|grid| grid.edges == Edges::Full);
+        self.letter != 'j' && !self.answer.values.contains(&26) && !full
     }
 }
 
@@ -70,6 +72,8 @@ pub fn figures() -> Vec<Figure> {
     add('l', write(one, (0, 0), [1, 10], &[1, 0, 1, 1, 0, 0, 0, 1, 1, 1], &[0xb1, 0xc0]));
     let four = Grid::new([2, 3], 1, 4, Mode::B, [2, 2]);
     add('m', write(four, (0, 1), [2, 1], &[5, 9], &[0, 0, 0x59, 0]));
+    let full = Grid { edges: Edges::Full, ..four };
+    add('m', write(full, (0, 1), [2, 1], &[5, 9], &[0, 0, 0x50, 0x90]));
 
     let header = Header { block_length: 4, ..Header::default() };
     let two_blocks = Grid::new([1, 2], 1, 8, Mode::B, [1, 1]);

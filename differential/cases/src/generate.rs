@@ -7,7 +7,7 @@ mod reorder;
 mod subheader;
 
 use crate::model::layout;
-use crate::{Area, Case, Grid, Kind, Mode, Source, BLOCK_SIDE, WIDTHS};
+use crate::{Area, Case, Edges, Grid, Kind, Mode, Source, BLOCK_SIDE, WIDTHS};
 
 /// How far a generator goes.
 #[derive(Clone, Copy)]
@@ -32,6 +32,7 @@ pub struct Size {
     pub outside: bool,
     pub mode: Option<Mode>,
     pub width: Option<u32>,
+    pub edges: Option<Edges>,
 }
 
 /// Lengths of the image that a read is handed.
@@ -57,7 +58,7 @@ fn compared(kind: Kind, from: &mut Source, size: &Size) -> Option<Case> {
         Kind::FromSequential => Some(reorder::sequential(from, size, false)),
         Kind::Select => Some(reorder::select(from, size)),
         _ => {
-            let grid = grid(from, size);
+            let grid = under_rule(grid(from, size), from, size);
             if layout::image_bytes(&grid) > u128::from(size.image) {
                 return None;
             }
@@ -111,6 +112,12 @@ fn samples(from: &mut Source, size: &Size) -> (u32, u32, Mode) {
     let nbpp = size.width.unwrap_or_else(|| WIDTHS[from.below(WIDTHS.len() as u64) as usize]);
     let mode = size.mode.unwrap_or_else(|| Mode::ALL[from.below(4) as usize]);
     (bands, nbpp, mode)
+}
+
+/// The grid under the edge rule of the size, or under any.
+fn under_rule(grid: Grid, from: &mut Source, size: &Size) -> Grid {
+    let edges = size.edges.unwrap_or_else(|| Edges::ALL[from.below(2) as usize]);
+    Grid { edges, ..grid }
 }
 
 fn bytes(from: &mut Source, size: &Size, count: u64) -> Vec<u8> {

@@ -26,6 +26,18 @@ impl Mode {
     }
 }
 
+/// The edge rule: what stands in a block at widths that are no byte multiple. Tight: its actual samples. Full: the
+/// nominal block, with zeros outside the picture.
+#[derive(Clone, Copy, Debug, PartialEq, Eq)]
+pub enum Edges {
+    Tight,
+    Full,
+}
+
+impl Edges {
+    pub const ALL: [Edges; 2] = [Edges::Tight, Edges::Full];
+}
+
 /// Names as in document 01; `bands` is the number of bands.
 #[derive(Clone, Copy, Debug, PartialEq, Eq)]
 pub struct Grid {
@@ -34,6 +46,7 @@ pub struct Grid {
     pub bands: u32,
     pub nbpp: u32,
     pub mode: Mode,
+    pub edges: Edges,
     pub nppbh: u32,
     pub nppbv: u32,
     pub nbpr: u32,
@@ -41,10 +54,10 @@ pub struct Grid {
 }
 
 impl Grid {
-    /// A picture of `nrows` x `ncols` in blocks of `nppbv` x `nppbh`.
+    /// A picture of `nrows` x `ncols` in blocks of `nppbv` x `nppbh`, tight.
     pub fn new([nrows, ncols]: [u32; 2], bands: u32, nbpp: u32, mode: Mode, [nppbv, nppbh]: [u32; 2]) -> Grid {
         let (nbpr, nbpc) = (ncols.div_ceil(nppbh), nrows.div_ceil(nppbv));
-        Grid { nrows, ncols, bands, nbpp, mode, nppbh, nppbv, nbpr, nbpc }
+        Grid { nrows, ncols, bands, nbpp, mode, edges: Edges::Tight, nppbh, nppbv, nbpr, nbpc }
     }
 
     /// How many values the first byte of a sample may have in lent data: in it stand the bits above NBPP, which are

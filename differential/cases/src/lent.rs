@@ -7,17 +7,19 @@ use crate::{Answer, Case};
 const PATTERN: u8 = 0xa5;
 
 /// Lengths: of an output in bytes (in 32-bit words for the mask from marks), of a frame's image in
-/// bytes and of its marks in words, of the outputs for a subheader's parts in bytes.
+/// bytes and of its marks in words, of the outputs for a subheader's parts in bytes. A frame may have
+/// no start: its first call then works on what the buffers held before.
 #[derive(Clone, Copy, Debug, Default, PartialEq)]
 pub struct Lent {
     pub output: u64,
     pub image: u64,
     pub marks: u64,
     pub parts: [u64; 3],
+    pub no_start: bool,
 }
 
 impl Lent {
-    /// The lengths of a case that names them; else what the call fills and no more.
+    /// What a case names; else what the call fills and no more.
     pub fn of(case: &Case) -> Lent {
         match case {
             Case::Lent { lent, .. } => *lent,

@@ -22,7 +22,7 @@ pub use case::{Answer, Area, Call, Case, Header, Kind, Pack, PANIC, UNKNOWN};
 pub use compare::{Comparison, Difference, Side, Tally};
 pub use figures::{figures, Figure};
 pub use generate::{generate, Lengths, Size};
-pub use grid::{Grid, Mode, BLOCK_SIDE, WIDTHS};
+pub use grid::{Edges, Grid, Mode, BLOCK_SIDE, WIDTHS};
 pub use large::large;
 pub use lent::Lent;
 pub use outside::outside;

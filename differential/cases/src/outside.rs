@@ -4,11 +4,11 @@
 mod sides;
 mod subheaders;
 
-use crate::{Area, Call, Case, Grid, Header, Lent, Mode, Pack, WIDTHS};
+use crate::{Area, Call, Case, Edges, Grid, Header, Lent, Mode, Pack, WIDTHS};
 
 type Cases = Box<dyn Iterator<Item = Case>>;
 
-/// Lists of cases, each with its name.
+/// Lists of cases, each with its name, tight.
 pub fn outside() -> Vec<(&'static str, Cases)> {
     vec![
         ("every width to 300", Box::new(widths())),
@@ -20,6 +20,7 @@ pub fn outside() -> Vec<(&'static str, Cases)> {
         ("every length of a frame's buffers", Box::new(frames())),
         ("every byte written at up to 8 bits", Box::new(bytes_written())),
         ("every bit above NBPP of every sample of a block", Box::new(higher_bits())),
+        ("every block written over other bytes", Box::new(over_other_bytes())),
         ("every header of a table of one block", Box::new(tables())),
         ("every table of one block written", Box::new(written())),
         ("every block and band looked up", Box::new(lookups())),
@@ -76,8 +77,8 @@ fn grids() -> impl Iterator<Item = Case> {
         let (down, across) = (count(nrows, nppbv), count(ncols, nppbh));
         let near = |n: u32| [n, n.wrapping_add(1), n.wrapping_sub(1), 9_999, 10_000];
         pairs(near(across).into_iter(), near(down).into_iter()).map(move |(nbpr, nbpc)| {
-            let mode = Mode::B;
-            let grid = Grid { nrows, ncols, bands, nbpp, mode, nppbh, nppbv, nbpr, nbpc };
+            let (mode, edges) = (Mode::B, Edges::Tight);
+            let grid = Grid { nrows, ncols, bands, nbpp, mode, edges, nppbh, nppbv, nbpr, nbpc };
             Case::Parse { grid, table: Vec::new() }
         })
     })
@@ -196,6 +197,22 @@ fn higher_bits() -> impl Iterator<Item = Case> {
             let mut data = fits.clone();
             data[sample * size] |= 1 << (bit % 8);
             written_again(grid, fits, data)
+        })
+    })
+}
+
+/// Each block of a frame that has no start, with the highest samples, with zeros and again.
+fn over_other_bytes() -> impl Iterator<Item = Case> {
+    pairs(WIDTHS.into_iter(), Mode::ALL.into_iter()).flat_map(|(nbpp, mode)| {
+        let grid = Grid::new([4, 5], 2, nbpp, mode, [3, 3]);
+        grid.every_block().map(move |(row, column)| {
+            let [rows, columns] = [[3, 1][row as usize], [3, 2][column as usize]];
+            let mut high = vec![0xff; (2 * rows * columns * nbpp.div_ceil(8)) as usize];
+            grid.clear_higher_bits(&mut high);
+            let write = |data| Call::Write { row, column, shape: [2, rows, columns], data };
+            let calls = vec![write(high.clone()), Call::Progress, write(vec![0; high.len()]), write(high)];
+            let case = Case::Frame { grid, calls };
+            Case::Lent { lent: Lent { no_start: true, ..Lent::of(&case) }, case: Box::new(case) }
         })
     })
 }

@@ -1,6 +1,6 @@
 //! Which cases are enumerated, and how large random ones are.
 
-use crate::{Kind, Lengths, Size};
+use crate::{Edges, Kind, Lengths, Size};
 
 /// All cases of some kinds up to a size.
 pub struct Plan {
@@ -9,7 +9,7 @@ pub struct Plan {
     pub size: Size,
 }
 
-/// Random cases.
+/// Random cases, tight.
 pub fn random_size() -> Size {
     Size {
         picture: 12,
@@ -25,6 +25,7 @@ pub fn random_size() -> Size {
         outside: false,
         mode: None,
         width: None,
+        edges: Some(Edges::Tight),
     }
 }
 
@@ -38,7 +39,7 @@ pub fn outside(size: Size) -> Size {
     Size { outside: true, ..size }
 }
 
-/// The enumerations. Data is random, but for the plans that say otherwise.
+/// The enumerations, tight. Data is random, but for the plans that say otherwise.
 pub fn exhaustive() -> Vec<Plan> {
     [reads(), frames(), tables_and_reorderings(), long_sides()].into_iter().flatten().collect()
 }

@@ -5,17 +5,32 @@ use std::process::ExitCode;
 use std::time::Instant;
 
 use crate::{
-    exhaustive, figures, large, long_size, outside, plans, random_size, Case, Comparison, Difference, Kind, Plan, Size,
-    Source,
+    exhaustive, figures, large, long_size, outside, plans, random_size, Case, Comparison, Difference, Edges, Kind,
+    Plan, Size, Source,
 };
 
 /// Which cases are run.
 #[derive(Clone, Copy, PartialEq)]
 pub enum Domain {
-    /// Document 01's compared domain, and what both sides refuse.
+    /// Document 01's compared domain, which is tight, and what both sides refuse.
     Compared,
-    /// Also inputs outside it, and lent buffers of any length.
+    /// Both edge rules; also inputs outside it, and lent buffers of any length.
     Any,
+}
+
+impl Domain {
+    fn size(self, size: Size) -> Size {
+        Size { edges: if self == Domain::Any { None } else { size.edges }, ..size }
+    }
+
+    /// A listed case, under each edge rule if it has one.
+    fn cases(self, case: Case) -> Vec<Case> {
+        if self == Domain::Any && case.kind().has_grid() {
+            Edges::ALL.map(|edges| case.clone().under(edges)).to_vec()
+        } else {
+            vec![case]
+        }
+    }
 }
 
 /// Of so many random cases there is one with a long side, as these take longer.
@@ -41,21 +56,23 @@ type Outcome = Result<(), Box<Difference>>;
 /// Drawn cases come first: a difference on one of them is made smaller.
 fn whole(comparison: &mut Comparison, domain: Domain, seed: u64, count: u64) -> Outcome {
     for plan in exhaustive() {
+        let plan = Plan { size: domain.size(plan.size), ..plan };
         reported(comparison, plan.name, |comparison| enumerated(comparison, &plan, seed))?;
     }
     let kinds = || Kind::ALL.into_iter().filter(|kind| domain == Domain::Any || kind.in_original());
     let on_grid = || kinds().filter(|kind| kind.has_grid());
-    random(comparison, "random", kinds(), &random_size(), seed, count)?;
-    random(comparison, "random, a long side", on_grid(), &long_size(), seed, count / LONG)?;
+    let (size, long) = (domain.size(random_size()), domain.size(long_size()));
+    random(comparison, "random", kinds(), &size, seed, count)?;
+    random(comparison, "random, a long side", on_grid(), &long, seed, count / LONG)?;
     if domain == Domain::Any {
-        random(comparison, "random, any input", kinds(), &plans::outside(random_size()), seed, count)?;
-        let long = plans::outside(long_size());
+        let (size, long) = (plans::outside(size), plans::outside(long));
+        random(comparison, "random, any input", kinds(), &size, seed, count)?;
         random(comparison, "random, any input, a long side", on_grid(), &long, seed, count / LONG)?;
         for (name, cases) in outside() {
-            reported(comparison, name, |comparison| listed(comparison, cases))?;
+            reported(comparison, name, |comparison| listed(comparison, domain, cases))?;
         }
     }
-    reported(comparison, "at the limits", |comparison| listed(comparison, large()))?;
+    reported(comparison, "at the limits", |comparison| listed(comparison, domain, large()))?;
     reported(comparison, "document 01's figures", |comparison| known(comparison, domain))
 }
 
@@ -98,8 +115,8 @@ fn random(
     Ok(())
 }
 
-fn listed(comparison: &mut Comparison, mut cases: impl Iterator<Item = Case>) -> Outcome {
-    cases.try_for_each(|case| comparison.case(&case))
+fn listed(comparison: &mut Comparison, domain: Domain, cases: impl Iterator<Item = Case>) -> Outcome {
+    cases.flat_map(|case| domain.cases(case)).try_for_each(|case| comparison.case(&case))
 }
 
 /// Runs a part, and prints how many calls of it were accepted and refused.

@@ -46,7 +46,8 @@ impl Source {
         Source { from: From::List(choices.to_vec()), ..Source::random(0) }
     }
 
-    /// All lists of choices, one after another: see `advance`. Bytes drawn by `byte` are random.
+    /// All lists of choices, one after another: see `advance`. Bytes drawn by `byte` are random; a choice
+    /// whose bound goes by them is taken modulo it.
     pub fn every(seed: u64) -> Source {
         Source { from: From::Every(Vec::new()), ..Source::random(seed) }
     }
@@ -84,7 +85,7 @@ impl Source {
                 if at == choices.len() {
                     choices.push((0, bound));
                 }
-                choices[at].0
+                choices[at].0 % bound
             }
         };
         self.taken.push(choice);

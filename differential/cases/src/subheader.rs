@@ -79,9 +79,9 @@ pub struct Subheader {
 impl Subheader {
     /// The answer of a call that read it.
     pub fn answer(&self) -> Answer {
-        let Grid { nrows, ncols, bands, nbpp, mode, nppbh, nppbv, nbpr, nbpc } = self.grid;
+        let Grid { nrows, ncols, bands, nbpp, mode, edges, nppbh, nppbv, nbpr, nbpc } = self.grid;
         let named = [self.pvtype as u32, self.pjust as u32, self.ic as u32, self.abpp];
-        let fields = [nrows, ncols, bands, nbpp, u32::from(mode.letter()), nppbh, nppbv, nbpr, nbpc];
+        let fields = [nrows, ncols, bands, nbpp, u32::from(mode.letter()), edges as u32, nppbh, nppbv, nbpr, nbpc];
         let values = named.into_iter().chain(fields).map(u64::from).collect();
         Answer { number: 0, values, bytes: [self.irep, self.icat].concat() }
     }

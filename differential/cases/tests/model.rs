@@ -2,7 +2,8 @@
 
 use cases::model::{answer, frame, layout, mask, questions, read, reorder};
 use cases::{
-    figures, generate, outside, random_size, Area, Case, Grid, Header, Kind, Lent, Mode, Pack, Size, Source, WIDTHS,
+    figures, generate, outside, random_size, Area, Case, Edges, Grid, Header, Kind, Lent, Mode, Pack, Size, Source,
+    WIDTHS,
 };
 
 #[test]
@@ -103,6 +104,73 @@ fn lent_buffers() {
     let sequential = Grid { mode: Mode::S, ..grid };
     assert_eq!(read::whole(&sequential, &[], (1, 1)), (0, &[][..]));
     assert_eq!(read::whole(&sequential, &[], (2, 1)), (6, &[][..]));
+}
+
+/// The samples (band, row, column) of so many rows and columns, one after the other in the order of the mode.
+fn line(mode: Mode, bands: u64, rows: u64, columns: u64) -> Vec<(u64, u64, u64)> {
+    let mut line = Vec::new();
+    let (first, second, third) = match mode {
+        Mode::B | Mode::S => (bands, rows, columns),
+        Mode::P => (rows, columns, bands),
+        Mode::R => (rows, bands, columns),
+    };
+    for i in 0..first {
+        for j in 0..second {
+            for k in 0..third {
+                line.push(match mode {
+                    Mode::B | Mode::S => (i, j, k),
+                    Mode::P => (k, i, j),
+                    Mode::R => (j, i, k),
+                });
+            }
+        }
+    }
+    line
+}
+
+/// Tight: a block's actual samples stand in the order of the mode. Full: the nominal block does. Both are cut into as
+/// many runs as bands. Byte multiples lie the same.
+#[test]
+fn edge_rules() {
+    for (nbpp, mode) in WIDTHS.into_iter().flat_map(|nbpp| Mode::ALL.map(|mode| (nbpp, mode))) {
+        let tight = Grid::new([4, 5], 3, nbpp, mode, [3, 3]);
+        let full = Grid { edges: Edges::Full, ..tight };
+        assert_eq!((questions::grid(&full), layout::image_bytes(&full)), (0, layout::image_bytes(&tight)));
+        for (row, column) in tight.every_block() {
+            assert_eq!(layout::block_end(&full, row, column), layout::block_end(&tight, row, column));
+            let (rows, columns) = (layout::actual_rows(&tight, row), layout::actual_columns(&tight, column));
+            let place = |grid: &Grid, (b, r, c)| layout::sample_bit(grid, (row, column), b, r, c);
+            for (grid, [held_rows, held_columns]) in [(&tight, [rows, columns]), (&full, [3, 3])] {
+                let line = line(mode, 3, held_rows, held_columns);
+                for (i, run) in line.chunks(line.len() / 3).enumerate() {
+                    let start = layout::run_start(grid, row, column, i as u64) * 8;
+                    let inside = run.iter().enumerate().filter(|(_, (_, r, c))| *r < rows && *c < columns);
+                    for (k, &sample) in inside {
+                        if layout::byte_multiple(grid) {
+                            assert_eq!(place(&full, sample), place(&tight, sample));
+                        } else {
+                            assert_eq!(place(grid, sample), start + k as u64 * u64::from(nbpp), "{grid:?} {sample:?}");
+                        }
+                    }
+                }
+            }
+        }
+    }
+}
+
+/// At widths that are no byte multiple a write sets all bytes of its block, whatever they were; else its samples'.
+#[test]
+fn written_over_other_bytes() {
+    for (nbpp, edges) in WIDTHS.into_iter().flat_map(|nbpp| Edges::ALL.map(|edges| (nbpp, edges))) {
+        let grid = Grid { edges, ..Grid::new([4, 5], 1, nbpp, Mode::B, [3, 3]) };
+        let t = layout::band_bytes(&grid) as usize;
+        let (mut image, mut marks) = (vec![0xff; 4 * t], [0]);
+        let zeros = vec![0; 2 * layout::sample_bytes(&grid) as usize];
+        assert_eq!(frame::write(&grid, &mut image, &mut marks, (1, 1), [1, 1, 2], &zeros), 0);
+        assert!(image[..3 * t].iter().all(|&byte| byte == 0xff));
+        let cleared = if layout::byte_multiple(&grid) { zeros.len() } else { t };
+        assert_eq!(image[3 * t..], [vec![0; cleared], vec![0xff; t - cleared]].concat(), "NBPP {nbpp} {edges:?}");
+    }
 }
 
 /// Question 26 is the last, is asked of every bit from NBPP on, and a write that it refuses changes nothing.

@@ -1,7 +1,8 @@
 //! A side that is wrong is found, and the case that shows it is small.
 
 use cases::{
-    long_size, model, random_size, Answer, Case, Comparison, Difference, Kind, Mode, Side, Size, Source, BLOCK_SIDE,
+    long_size, model, random_size, Answer, Case, Comparison, Difference, Edges, Kind, Mode, Side, Size, Source,
+    BLOCK_SIDE,
 };
 
 /// The smallest case found that shows a difference from the model.
@@ -34,6 +35,16 @@ fn rows_taken_for_pixels() {
     // The least is a full block of one row, two columns and two bands of one bit.
     assert_eq!((grid.mode, grid.bands, grid.nbpp), (Mode::P, 2, 1));
     assert_eq!((grid.nrows, grid.ncols, image.len()), (1, 2, 2));
+}
+
+#[test]
+fn rule_not_looked_at() {
+    let size = Size { edges: None, ..random_size() };
+    let difference = found(Kind::Read, &size, |case| model::answer(&case.clone().under(Edges::Tight)));
+    let Case::Read { grid, image, .. } = difference.case else { panic!("a read") };
+    // The least is one column of two rows of one bit, in a block of two columns.
+    assert_eq!((grid.mode, grid.edges, grid.bands, grid.nbpp), (Mode::B, Edges::Full, 1, 1));
+    assert_eq!((grid.nrows, grid.ncols, grid.nppbh, image.len()), (2, 1, 2, 1));
 }
 
 #[test]

@@ -1,7 +1,7 @@
 //! The model's reader and writer of a subheader's parts, and wrong ones that the cases find.
 
-use cases::model::subheader::{read, write};
-use cases::{model, outside, Answer, Case, Compression, Grid, Justification, Lent, Mode, PixelValue, Subheader};
+use cases::model::subheader::{self, write};
+use cases::{model, outside, Answer, Case, Compression, Edges, Grid, Justification, Lent, Mode, PixelValue, Subheader};
 
 /// Picture 3 x 5 in blocks of 2 x 4, 2 bands of 8 bits.
 const PARTS: [&[u8]; 3] = [b"0000000300000005SI MULTI   MS      07L", b"NM", b"R000200020004000208"];
@@ -16,6 +16,11 @@ fn fields() -> Subheader {
         ic: Compression::Nm,
         grid: Grid::new([3, 5], 2, 8, Mode::R, [2, 4]),
     }
+}
+
+/// The reader under the rule tight.
+fn read(parts: [&[u8]; 3], bands: u32) -> Result<Subheader, u8> {
+    subheader::read(parts, bands, Edges::Tight)
 }
 
 /// A part with some bytes replaced.
@@ -45,6 +50,16 @@ fn reads_the_fields() {
     // A fault in the last part comes before one in the first, if its number is lower in the order.
     assert_eq!(read([&changed(PARTS[0], 16, b"int"), PARTS[1], &PARTS[2][..18]], 2), Err(23));
     assert_eq!(read([&changed(PARTS[0], 0, b"00000000"), PARTS[1], &changed(PARTS[2], 0, b"r")], 2), Err(24));
+}
+
+/// The rule is given and stands in no part: it is what the grid then has, and is not written.
+#[test]
+fn edge_rule_is_given() {
+    for edges in Edges::ALL {
+        let held = Subheader { grid: Grid { edges, ..fields().grid }, ..fields() };
+        assert_eq!(subheader::read(PARTS, 2, edges), Ok(held));
+        assert_eq!(written(&held, [38, 2, 19]), (0, PARTS.map(<[u8]>::to_vec)));
+    }
 }
 
 #[test]
@@ -169,7 +184,7 @@ fn wrong_readers_are_found() {
     ];
     for (name, wrong) in wrong {
         let differs = |case: Case| match case {
-            Case::ReadSubheader { parts, bands } if parts.iter().all(|part| !part.is_empty()) => {
+            Case::ReadSubheader { parts, bands, .. } if parts.iter().all(|part| !part.is_empty()) => {
                 wrong(parts.clone(), bands) != plain(&parts, bands)
             }
             _ => false,

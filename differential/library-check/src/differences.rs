@@ -2,7 +2,7 @@
 
 use std::fmt::Debug;
 
-use cases::{Answer, Call, Case, Grid, Header, Lent, Mode, Pack};
+use cases::{Answer, Call, Case, Edges, Grid, Header, Lent, Mode, Pack};
 use original::{ImageDataMask, Refusal};
 
 use crate::library;
@@ -17,6 +17,7 @@ pub fn print() {
     whole_block();
     frames();
     higher_bits();
+    edge_rules();
     tables_read();
     tables_written();
     offset_lists();
@@ -109,7 +110,7 @@ fn parts(pvtype: &str, imode: char) -> Case {
     let first = format!("0000000100000001{pvtype}MONO    VIS     08R");
     let third = format!("{imode}000100010001000108");
     let parts = [first, "NC".to_string(), third].map(String::into_bytes);
-    Case::ReadSubheader { parts, bands: 1 }
+    Case::ReadSubheader { parts, bands: 1, edges: Edges::Tight }
 }
 
 fn named_values() {
@@ -153,6 +154,21 @@ fn higher_bits() {
         let calls = vec![Call::Write { row: 0, column: 0, shape: [1, 1, 1], data }];
         show(&what, original, &Case::Frame { grid, calls });
     }
+}
+
+/// The original is tight.
+fn edge_rules() {
+    let full = |picture, nbpp| Grid { edges: Edges::Full, ..Grid::new(picture, 1, nbpp, Mode::B, [2, 2]) };
+    read("a read at NBPP 1 of 2 x 1 in a block of 2 x 2, full, image a0", full([2, 1], 1), &[0xa0], (0, 0), None);
+    let grid = full([2, 3], 4);
+    let (row, column, shape, data) = (0, 1, [1, 2, 1], vec![5, 9]);
+    let original = original::Encoder::new(&grid).and_then(|mut encoder| {
+        encoder.skip_block(0, 0)?;
+        encoder.encode_block(row, column, &data, shape)?;
+        encoder.finalize()
+    });
+    let calls = vec![Call::Write { row, column, shape, data }];
+    show("figure m's write, full", original, &Case::Frame { grid, calls });
 }
 
 fn tables_read() {

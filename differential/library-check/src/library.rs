@@ -1,7 +1,7 @@
 //! The library's answer to a case, through its Rust crate and over lent buffers.
 
-use cases::{Answer, Area, Call, Case, Grid, Header, Lent, Mode, Pack, UNKNOWN};
-use gezdunar::{Bands, ImageDataMask, InterleaveMode, Refusal, Reordered, Shape, Window};
+use cases::{Answer, Area, Call, Case, Edges, Grid, Header, Lent, Mode, Pack, UNKNOWN};
+use gezdunar::{Bands, EdgeRule, ImageDataMask, InterleaveMode, Refusal, Reordered, Shape, Window};
 
 use crate::subheader;
 
@@ -34,7 +34,7 @@ pub fn answer(case: &Case) -> Answer {
             with_output(&lent, |out| reordered(gezdunar::from_band_sequential, pack, data, out))
         }
         Case::Select { pack, data, bands, .. } => with_output(&lent, |out| selected(pack, data, asked(bands), out)),
-        Case::ReadSubheader { parts, bands } => subheader::read_answer(parts, *bands),
+        Case::ReadSubheader { parts, bands, edges } => subheader::read_answer(parts, *bands, *edges),
         Case::WriteSubheader { subheader } => subheader::write_answer(subheader, &lent),
         Case::Lent { .. } => unreachable!("lengths are given once"),
     }
@@ -49,9 +49,16 @@ pub fn imode(mode: Mode) -> InterleaveMode {
     }
 }
 
+pub fn rule(edges: Edges) -> EdgeRule {
+    match edges {
+        Edges::Tight => EdgeRule::Tight,
+        Edges::Full => EdgeRule::Full,
+    }
+}
+
 pub fn record(grid: &Grid) -> gezdunar::Grid {
-    let Grid { nrows, ncols, bands, nbpp, mode, nppbh, nppbv, nbpr, nbpc } = *grid;
-    gezdunar::Grid { nrows, ncols, bands, nbpp, imode: imode(mode), nppbh, nppbv, nbpr, nbpc }
+    let Grid { nrows, ncols, bands, nbpp, mode, edges, nppbh, nppbv, nbpr, nbpc } = *grid;
+    gezdunar::Grid { nrows, ncols, bands, nbpp, imode: imode(mode), edges: rule(edges), nppbh, nppbv, nbpr, nbpc }
 }
 
 fn asked(bands: &Option<Vec<u32>>) -> Bands<'_> {
@@ -146,7 +153,7 @@ fn counts(answer: Reordered) -> Vec<u64> {
 /// The calls on one image and one set of marks.
 fn frame(grid: &gezdunar::Grid, calls: &[Call], lent: &Lent) -> Answer {
     let (mut image, mut marks) = (lent.image(), lent.marks());
-    let start = gezdunar::start(&mut image, &mut marks, grid);
+    let start = if lent.no_start { Ok(()) } else { gezdunar::start(&mut image, &mut marks, grid) };
     let mut values = Vec::new();
     for call in calls {
         values.extend(match frame_call(grid, call, &mut image, &mut marks) {

@@ -1,9 +1,9 @@
 //! The library's answer to a read or a write of three parts of an image subheader.
 
-use cases::{Answer, Compression, Grid, Justification, Lent, Mode, PixelValue, Subheader};
+use cases::{Answer, Compression, Edges, Grid, Justification, Lent, Mode, PixelValue, Subheader};
 use gezdunar::{ImageCompression, ImageSubheader, PixelJustification, PixelValueType};
 
-use crate::library::{imode, number, record};
+use crate::library::{imode, number, record, rule};
 
 fn pvtype(value: PixelValue) -> PixelValueType {
     match value {
@@ -35,10 +35,10 @@ fn named<T: Copy, L: PartialEq>(values: &[T], to: fn(T) -> L, held: &L) -> T {
 }
 
 /// The fields, or the number.
-pub fn read([first, second, third]: [&[u8]; 3], bands: u32) -> Result<Subheader, u8> {
-    let s = ImageSubheader::read(first, second, third, bands).map_err(number)?;
-    let gezdunar::Grid { nrows, ncols, bands, nbpp, imode: held, nppbh, nppbv, nbpr, nbpc } = s.grid;
-    let mode = named(&Mode::ALL, imode, &held);
+pub fn read([first, second, third]: [&[u8]; 3], bands: u32, edges: Edges) -> Result<Subheader, u8> {
+    let s = ImageSubheader::read(first, second, third, bands, rule(edges)).map_err(number)?;
+    let gezdunar::Grid { nrows, ncols, bands, nbpp, imode: held, edges, nppbh, nppbv, nbpr, nbpc } = s.grid;
+    let (mode, edges) = (named(&Mode::ALL, imode, &held), named(&Edges::ALL, rule, &edges));
     Ok(Subheader {
         pvtype: named(&PixelValue::ALL, pvtype, &s.pvtype),
         irep: s.irep,
@@ -46,7 +46,7 @@ pub fn read([first, second, third]: [&[u8]; 3], bands: u32) -> Result<Subheader,
         abpp: s.abpp,
         pjust: named(&Justification::ALL, pjust, &s.pjust),
         ic: named(&Compression::ALL, ic, &s.ic),
-        grid: Grid { nrows, ncols, bands, nbpp, mode, nppbh, nppbv, nbpr, nbpc },
+        grid: Grid { nrows, ncols, bands, nbpp, mode, edges, nppbh, nppbv, nbpr, nbpc },
     })
 }
 
@@ -59,9 +59,9 @@ pub fn write(s: &Subheader, outputs: &mut [Vec<u8>; 3]) -> u8 {
     written.map_or_else(number, |()| 0)
 }
 
-pub fn read_answer(parts: &[Vec<u8>; 3], bands: u32) -> Answer {
+pub fn read_answer(parts: &[Vec<u8>; 3], bands: u32, edges: Edges) -> Answer {
     let parts = parts.each_ref().map(Vec::as_slice);
-    read(parts, bands).map_or_else(Answer::refused, |subheader| subheader.answer())
+    read(parts, bands, edges).map_or_else(Answer::refused, |subheader| subheader.answer())
 }
 
 /// What is written is read again: it has no values if it is the same, else a 1, so that it shows.
@@ -71,7 +71,8 @@ pub fn write_answer(subheader: &Subheader, lent: &Lent) -> Answer {
     let mut values = Vec::new();
     if number == 0 {
         let parts = [&outputs[0][..38], &outputs[1][..2], &outputs[2][..19]];
-        if read(parts, subheader.grid.bands) != Ok(*subheader) {
+        let Grid { bands, edges, .. } = subheader.grid;
+        if read(parts, bands, edges) != Ok(*subheader) {
             values.push(1);
         }
     }

@@ -2,7 +2,7 @@
 
 use std::fmt::Debug;
 
-use cases::{Compression, Grid, Justification, Mode, PixelValue, Subheader};
+use cases::{Compression, Edges, Grid, Justification, Mode, PixelValue, Subheader};
 use original::Refusal;
 
 use crate::subheader;
@@ -46,7 +46,7 @@ fn plain() -> [Vec<u8>; 3] {
 /// The field at a place in a part, read by the library with its value there.
 fn read(parts: &mut [Vec<u8>; 3], part: usize, at: usize, field: &[u8]) -> Result<Subheader, u8> {
     parts[part][at..at + field.len()].copy_from_slice(field);
-    subheader::read([&parts[0], &parts[1], &parts[2]], 1)
+    subheader::read([&parts[0], &parts[1], &parts[2]], 1, Edges::Tight)
 }
 
 /// Every three bytes. Those that are no UTF-8 cannot be handed to the original, so that it does not read them.

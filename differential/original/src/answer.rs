@@ -4,12 +4,15 @@
 //! together here: a window from the blocks that it crosses, a whole block from `tile_byte_ranges`, the
 //! marks and the count of them from the blocks that `finalize` names.
 
-use cases::{Answer, Area, Call, Case, Grid, Header, Mode, Pack};
+use cases::{Answer, Area, Call, Case, Edges, Grid, Header, Mode, Pack};
 
 use crate::{Encoder, ImageDataMask, Refusal};
 
-/// None where the original has no answer: a whole block in S, a subheader, lent buffers.
+/// None where the original has no answer: the rule full, a whole block in S, a subheader, lent buffers.
 pub fn answer(case: &Case) -> Option<Answer> {
+    if case.grid().is_some_and(|grid| grid.edges == Edges::Full) {
+        return None;
+    }
     let answer = match case {
         Case::Read { grid, image, row, column, level, bands } => {
             crate::decode_block(grid, image, *row, *column, *level, bands.as_deref())

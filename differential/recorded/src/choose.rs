@@ -1,6 +1,6 @@
 //! Which cases are recorded.
 
-use cases::{generate, Call, Case, Grid, Kind, Lengths, Mode, Size, Source, WIDTHS};
+use cases::{generate, Call, Case, Edges, Kind, Lengths, Mode, Size, Source, WIDTHS};
 
 /// Small pictures, so that the file stays small.
 fn small() -> Size {
@@ -18,32 +18,13 @@ fn small() -> Size {
         outside: false,
         mode: None,
         width: None,
-    }
-}
-
-fn grid(case: &Case) -> Option<&Grid> {
-    match case {
-        Case::Read { grid, .. }
-        | Case::Whole { grid, .. }
-        | Case::Window { grid, .. }
-        | Case::Frame { grid, .. }
-        | Case::Parse { grid, .. }
-        | Case::Rewrite { grid, .. }
-        | Case::MaskWrite { grid, .. }
-        | Case::Lookup { grid, .. }
-        | Case::FromMarks { grid, .. } => Some(grid),
-        Case::ToSequential { .. }
-        | Case::FromSequential { .. }
-        | Case::Select { .. }
-        | Case::ReadSubheader { .. }
-        | Case::WriteSubheader { .. } => None,
-        Case::Lent { case, .. } => grid(case),
+        edges: Some(Edges::Tight),
     }
 }
 
 /// More than one block, the last of a row or column cut by the picture's edge, more than one band.
 fn has_edges(case: &Case) -> bool {
-    grid(case).is_none_or(|g| {
+    case.grid().is_none_or(|g| {
         let cut = !g.nrows.is_multiple_of(g.nppbv) || !g.ncols.is_multiple_of(g.nppbh);
         cut && g.blocks() > 1 && g.bands > 1
     })
@@ -92,7 +73,7 @@ pub fn cases(seed: u64) -> Vec<Case> {
         }
         // Marks in two words.
         let size = Size { mode: Some(mode), width: Some(1), picture: 10, block: 1, ..small() };
-        let two_words = |case: &Case| grid(case).is_some_and(|g| g.blocks() > 64 && g.bands == 1);
+        let two_words = |case: &Case| case.grid().is_some_and(|g| g.blocks() > 64 && g.bands == 1);
         let long = |case: &Case| matches!(case, Case::Frame { calls, .. } if calls.len() > 64);
         list.push(draw(Kind::Frame, &mut from, &size, |case| two_words(case) && long(case)));
         list.push(draw(Kind::FromMarks, &mut from, &size, two_words));

@@ -1,7 +1,7 @@
 //! Replays a file of records against the model: the program that FORMAT.md describes, without a heap.
 
 use cases::model::{frame, layout, mask, questions, read, reorder};
-use cases::{Area, Grid, Header, Mode, Pack};
+use cases::{Area, Edges, Grid, Header, Mode, Pack};
 
 use crate::record::{Ask, BYTES, HEADER, WORDS};
 
@@ -92,11 +92,12 @@ impl<'a> Given<'a> {
     }
 }
 
+/// The original is tight.
 fn grid(from: &mut Reader) -> Grid {
     let words: [u32; 9] = std::array::from_fn(|_| from.word());
     let [nrows, ncols, bands, nbpp, letter, nppbh, nppbv, nbpr, nbpc] = words;
     let mode = Mode::from_letter(letter as u8).expect("B, P, R or S");
-    Grid { nrows, ncols, bands, nbpp, mode, nppbh, nppbv, nbpr, nbpc }
+    Grid { nrows, ncols, bands, nbpp, mode, edges: Edges::Tight, nppbh, nppbv, nbpr, nbpc }
 }
 
 /// Replays all records. Gives their counts by kind, or the first record that does not hold.

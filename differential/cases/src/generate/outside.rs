@@ -1,8 +1,8 @@
 //! Cases changed so that they may leave the compared domain: a field of the grid, an argument, the
-//! lengths of the lent buffers.
+//! lengths of the lent buffers, a frame without a start.
 
 use super::Size;
-use crate::{Area, Call, Case, Grid, Header, Lent, Pack, Source, Subheader};
+use crate::{Area, Call, Case, Grid, Header, Lent, Pack, Source};
 
 /// Most bytes and words of a frame's lent buffers, and with a long side.
 const MOST: u64 = 4096;
@@ -86,22 +86,9 @@ fn bytes(data: &mut Vec<u8>, from: &mut Source) {
 /// One field or argument.
 fn change(case: &mut Case, from: &mut Source) {
     let in_grid = from.below(2) == 1;
-    match case {
-        Case::Read { grid: g, .. }
-        | Case::Whole { grid: g, .. }
-        | Case::Window { grid: g, .. }
-        | Case::Frame { grid: g, .. }
-        | Case::Parse { grid: g, .. }
-        | Case::Rewrite { grid: g, .. }
-        | Case::MaskWrite { grid: g, .. }
-        | Case::Lookup { grid: g, .. }
-        | Case::FromMarks { grid: g, .. }
-        | Case::WriteSubheader { subheader: Subheader { grid: g, .. } }
-            if in_grid =>
-        {
-            grid(g, from);
-        }
-        case => argument(case, from),
+    match case.grid_mut() {
+        Some(g) if in_grid => grid(g, from),
+        _ => argument(case, from),
     }
 }
 
@@ -199,7 +186,8 @@ fn lent(case: Case, from: &mut Source, most: u64) -> Case {
     let lent = match case {
         Case::Frame { .. } => {
             let image = length(from, exact.image.min(most));
-            Lent { image, marks: length(from, exact.marks.min(most)), ..exact }
+            let marks = length(from, exact.marks.min(most));
+            Lent { image, marks, no_start: from.below(4) == 3, ..exact }
         }
         Case::WriteSubheader { .. } => Lent { parts: exact.parts.map(|part| length(from, part)), ..exact },
         Case::Whole { .. }

@@ -31,5 +31,5 @@ pub fn read(grid: Grid, from: &mut Source) -> Case {
             parts[2][at..at + 4].fill(b'0');
         }
     }
-    Case::ReadSubheader { parts, bands: grid.bands }
+    Case::ReadSubheader { parts, bands: grid.bands, edges: grid.edges }
 }

@@ -1,13 +1,13 @@
 //! The model's answer to a case.
 
 use super::{frame, mask, read, reorder, subheader};
-use crate::{Answer, Call, Case, Grid, Header, Lent, Subheader};
+use crate::{Answer, Call, Case, Edges, Grid, Header, Lent, Subheader};
 
 pub fn answer(case: &Case) -> Answer {
     lent_answer(case.call(), &Lent::of(case))
 }
 
-/// The answer of a call that is lent buffers of these lengths.
+/// The answer of a call that is lent these buffers.
 pub fn lent_answer(case: &Case, lent: &Lent) -> Answer {
     match case {
         Case::Read { grid, image, row, column, level, bands } => with_output(lent, |out| {
@@ -39,7 +39,7 @@ pub fn lent_answer(case: &Case, lent: &Lent) -> Answer {
         Case::Select { pack, data, bands, .. } => {
             with_output(lent, |out| (reorder::select(pack, data, bands.as_deref(), out), Vec::new()))
         }
-        Case::ReadSubheader { parts, bands } => read_subheader(parts, *bands),
+        Case::ReadSubheader { parts, bands, edges } => read_subheader(parts, *bands, *edges),
         Case::WriteSubheader { subheader } => write_subheader(subheader, lent),
         Case::Lent { .. } => unreachable!("lengths are given once"),
     }
@@ -52,9 +52,9 @@ fn with_output(lent: &Lent, call: impl FnOnce(&mut [u8]) -> (u8, Vec<u64>)) -> A
     Answer { number, values: if number == 0 { values } else { Vec::new() }, bytes }
 }
 
-fn read_subheader(parts: &[Vec<u8>; 3], bands: u32) -> Answer {
+fn read_subheader(parts: &[Vec<u8>; 3], bands: u32, edges: Edges) -> Answer {
     let parts = parts.each_ref().map(Vec::as_slice);
-    subheader::read(parts, bands).map_or_else(Answer::refused, |subheader| subheader.answer())
+    subheader::read(parts, bands, edges).map_or_else(Answer::refused, |subheader| subheader.answer())
 }
 
 fn write_subheader(subheader: &Subheader, lent: &Lent) -> Answer {
@@ -108,7 +108,7 @@ fn from_marks(grid: &Grid, marks: &[u64], lent: &Lent) -> Answer {
 /// The calls on one image and one set of marks.
 fn frame_answer(grid: &Grid, calls: &[Call], lent: &Lent) -> Answer {
     let (mut image, mut marks) = (lent.image(), lent.marks());
-    let number = frame::start(grid, &mut image, &mut marks);
+    let number = if lent.no_start { 0 } else { frame::start(grid, &mut image, &mut marks) };
     let mut values = Vec::new();
     for call in calls {
         let answer = match call {

@@ -1,6 +1,6 @@
 //! Where a sample lies. All but `image_bytes` take a grid that passes questions 1 to 4.
 
-use crate::{Grid, Mode};
+use crate::{Edges, Grid, Mode};
 
 /// s: the bytes of a sample in lent data.
 pub fn sample_bytes(g: &Grid) -> u64 {
@@ -67,7 +67,10 @@ pub fn sample_bit(g: &Grid, (row, column): (u32, u32), b: u64, r: u64, c: u64) -
         };
         return byte * 8;
     }
-    let (rows, columns) = (actual_rows(g, row), actual_columns(g, column));
+    let (rows, columns) = match g.edges {
+        Edges::Tight => (actual_rows(g, row), actual_columns(g, column)),
+        Edges::Full => (u64::from(g.nppbv), u64::from(g.nppbh)),
+    };
     let place = match g.mode {
         Mode::B | Mode::S => (b * rows + r) * columns + c,
         Mode::P => (r * columns + c) * bands + b,

@@ -1,7 +1,7 @@
 //! Three parts of an image subheader, read and written: document 02's words, with the fields of MIL-STD-2500C.
 
 use super::questions;
-use crate::{Compression, Grid, Justification, Mode, PixelValue, Subheader, BLOCK_SIDE};
+use crate::{Compression, Edges, Grid, Justification, Mode, PixelValue, Subheader, BLOCK_SIDE};
 
 /// The bytes of each field: NROWS, NCOLS, PVTYPE, IREP, ICAT, ABPP, PJUST.
 const FIRST: [usize; 7] = [8, 8, 3, 8, 8, 2, 1];
@@ -48,8 +48,8 @@ fn meant(side: u32, blocks: u32, picture: u32) -> u32 {
     }
 }
 
-/// The fields, or the number.
-pub fn read([first, second, third]: [&[u8]; 3], bands: u32) -> Result<Subheader, u8> {
+/// The fields, or the number. The parts hold neither the count of bands nor the edge rule.
+pub fn read([first, second, third]: [&[u8]; 3], bands: u32, edges: Edges) -> Result<Subheader, u8> {
     let [nrows, ncols, pvtype, irep, icat, abpp, pjust] = fields(first, FIRST)?;
     let [ic] = fields(second, SECOND)?;
     let [imode, nbpr, nbpc, nppbh, nppbv, nbpp] = fields(third, THIRD)?;
@@ -63,7 +63,7 @@ pub fn read([first, second, third]: [&[u8]; 3], bands: u32) -> Result<Subheader,
     let mode = named(&Mode::ALL, |value| [value.letter()] == imode)?;
 
     let (nppbh, nppbv) = (meant(nppbh, nbpr, ncols), meant(nppbv, nbpc, nrows));
-    let grid = Grid { nrows, ncols, bands, nbpp, mode, nppbh, nppbv, nbpr, nbpc };
+    let grid = Grid { nrows, ncols, bands, nbpp, mode, edges, nppbh, nppbv, nbpr, nbpc };
     let unread = |field: &[u8]| field.try_into().expect("a field of 8 bytes");
     match questions::grid(&grid) {
         0 => Ok(Subheader { pvtype, irep: unread(irep), icat: unread(icat), abpp, pjust, ic, grid }),

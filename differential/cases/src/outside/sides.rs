@@ -1,7 +1,7 @@
 //! Sides of a block above 8,192: the picture's own, and others.
 
 use super::{pairs, short_calls};
-use crate::{Area, Case, Grid, Mode};
+use crate::{Area, Case, Edges, Grid, Mode};
 
 /// A picture's side and a block's with the count of blocks, and one count more.
 fn side() -> Vec<(u32, u32, u32)> {
@@ -17,8 +17,8 @@ fn side() -> Vec<(u32, u32, u32)> {
 /// Every two sides: a block side is the picture's own, the picture's other one, or neither. Every call asks question 1.
 pub fn calls() -> impl Iterator<Item = Case> {
     pairs(side().into_iter(), side().into_iter()).flat_map(|((nrows, nppbv, nbpc), (ncols, nppbh, nbpr))| {
-        let (bands, nbpp, mode) = (1, 1, Mode::B);
-        short_calls(Grid { nrows, ncols, bands, nbpp, mode, nppbh, nppbv, nbpr, nbpc })
+        let (bands, nbpp, mode, edges) = (1, 1, Mode::B, Edges::Tight);
+        short_calls(Grid { nrows, ncols, bands, nbpp, mode, edges, nppbh, nppbv, nbpr, nbpc })
     })
 }
 

@@ -1,13 +1,13 @@
 //! Three parts of an image subheader, changed, cut and at the limits of their fields; subheaders to be written.
 
 use super::pairs;
-use crate::{Case, Compression, Grid, Justification, Lent, Mode, PixelValue, Subheader};
+use crate::{Case, Compression, Edges, Grid, Justification, Lent, Mode, PixelValue, Subheader};
 
 /// The three parts, and the count of bands.
 type Parts = ([Vec<u8>; 3], u32);
 
 fn read((parts, bands): Parts) -> Case {
-    Case::ReadSubheader { parts, bands }
+    Case::ReadSubheader { parts, bands, edges: Edges::Tight }
 }
 
 fn parts(first: &[u8], second: &[u8], third: &[u8], bands: u32) -> Parts {
