@@ -2,7 +2,7 @@
 
 use std::hint::black_box;
 
-use gezdunar::{Bands, Grid, Shape, Sizes, Window};
+use gezdunar::{Bands, EdgeRule, Grid, Shape, Sizes, Window};
 use original::owned_buffer::OwnedBuffer;
 
 use crate::buffers::{source, source_of, Output};
@@ -89,6 +89,18 @@ impl Frame {
         gezdunar::encode_block(image, &mut self.marks, grid, block.0, block.1, shape(grid, block, None), data)
             .expect("a block of the grid");
     }
+}
+
+/// The image of a tight grid, laid anew under the grid's edge rule.
+pub fn relaid(grid: &Grid, tight: &OwnedBuffer) -> OwnedBuffer {
+    let from = Grid { edges: EdgeRule::Tight, ..*grid };
+    let mut frame = Frame::start(grid);
+    for block in (0..grid.nbpc).flat_map(|row| (0..grid.nbpr).map(move |column| (row, column))) {
+        let mut samples = Output::new(decoded_bytes(grid, block, None));
+        decode_block(tight, &from, block, None, &mut samples);
+        frame.encode_block(grid, block, &source_of(samples.bytes()));
+    }
+    source_of(frame.image.bytes())
 }
 
 /// Bytes of the image that a block's samples take.

@@ -3,7 +3,7 @@
 use std::hint::black_box;
 use std::time::{Duration, Instant};
 
-use gezdunar::{Grid, InterleaveMode, Refusal};
+use gezdunar::{EdgeRule, Grid, InterleaveMode, Refusal};
 use original::owned_buffer::OwnedBuffer;
 
 use crate::blocks::sizes;
@@ -14,7 +14,7 @@ use crate::report::Times;
 
 /// 9,999 x 9,999 blocks of one sample.
 pub fn grid() -> Grid {
-    Grid::new(9999, 9999, 1, 8, InterleaveMode::B, 1, 1)
+    Grid::new(9999, 9999, 1, 8, InterleaveMode::B, EdgeRule::Tight, 1, 1)
 }
 
 /// In the last row of blocks.

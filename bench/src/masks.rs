@@ -3,7 +3,7 @@
 
 use std::hint::black_box;
 
-use gezdunar::{Grid, InterleaveMode, EMPTY_BLOCK_OFFSET};
+use gezdunar::{EdgeRule, Grid, InterleaveMode, EMPTY_BLOCK_OFFSET};
 use original::owned_buffer::OwnedBuffer;
 
 use crate::buffers::{copy, source_of, Output};
@@ -13,7 +13,7 @@ use crate::report::Times;
 
 /// 100,000 blocks.
 pub fn grid() -> Grid {
-    Grid::new(250 * 16, 400 * 16, 1, 8, InterleaveMode::B, 16, 16)
+    Grid::new(250 * 16, 400 * 16, 1, 8, InterleaveMode::B, EdgeRule::Tight, 16, 16)
 }
 
 /// Every seventh block is empty.

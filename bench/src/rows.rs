@@ -1,7 +1,7 @@
 //! The list of rows, with their targets.
 
 use gezdunar::InterleaveMode as Mode;
-use gezdunar::{Grid, Window};
+use gezdunar::{EdgeRule, Grid, Window};
 
 use crate::moves::Memcpy;
 use crate::original::Block;
@@ -23,7 +23,7 @@ const LISTS: [(u32, [u32; 3]); 2] = [(4, [3, 0, 2]), (100, [70, 3, 41])];
 
 /// Two blocks, side by side, so that S differs from B.
 fn two_blocks(mode: Mode, nbpp: u32, bands: u32) -> Grid {
-    Grid::new(SIDE, 2 * SIDE, bands, nbpp, mode, SIDE, SIDE)
+    Grid::new(SIDE, 2 * SIDE, bands, nbpp, mode, EdgeRule::Tight, SIDE, SIDE)
 }
 
 /// The second of two blocks.
@@ -96,7 +96,7 @@ fn listed_bands() -> Vec<Row> {
 
 /// The last block of 1,000 rows and columns has 488 of each.
 fn edge_grid(mode: Mode, nbpp: u32) -> Grid {
-    Grid::new(1000, 1000, 4, nbpp, mode, SIDE, SIDE)
+    Grid::new(1000, 1000, 4, nbpp, mode, EdgeRule::Tight, SIDE, SIDE)
 }
 
 const EDGE: Block = (1, 1);
@@ -116,14 +116,18 @@ fn edge_blocks() -> Vec<Row> {
 /// As many samples as a block has, of four blocks; at 12 bits the rows start inside a byte.
 const WINDOW: Window = Window { row: 200, column: 301, rows: SIDE, columns: SIDE };
 
-fn window(mode: Mode, nbpp: u32, target: Target, memcpy: Memcpy) -> Row {
-    let grid = Grid::new(2 * SIDE, 2 * SIDE, 4, nbpp, mode, SIDE, SIDE);
+fn window_of(grid: Grid, what: &str, target: Target, memcpy: Memcpy) -> Row {
     Row {
-        name: format!("read_window {mode}, {nbpp} bits, 4 bands, across 4 blocks"),
+        name: format!("read_window {}, {} bits, 4 bands, {what}", grid.imode, grid.nbpp),
         bytes: windows::window_bytes(&grid, &WINDOW),
         target,
         work: Box::new(move || windows::read(&grid, WINDOW, memcpy)),
     }
+}
+
+fn window(mode: Mode, nbpp: u32, target: Target, memcpy: Memcpy) -> Row {
+    let grid = Grid::new(2 * SIDE, 2 * SIDE, 4, nbpp, mode, EdgeRule::Tight, SIDE, SIDE);
+    window_of(grid, "across 4 blocks", target, memcpy)
 }
 
 fn windows_across() -> Vec<Row> {
@@ -131,6 +135,13 @@ fn windows_across() -> Vec<Row> {
     for mode in Mode::ALL {
         for nbpp in [8, 12, 16] {
             rows.push(window(mode, nbpp, target(mode, nbpp, 4), Memcpy::Runs));
+        }
+    }
+    // Three of the four blocks are edge blocks.
+    for mode in [Mode::B, Mode::P] {
+        for edges in EdgeRule::ALL {
+            let grid = Grid { edges, ..edge_grid(mode, 12) };
+            rows.push(window_of(grid, &format!("{edges} edge blocks"), target(mode, 12, 4), Memcpy::Runs));
         }
     }
     rows

@@ -1,12 +1,13 @@
-//! Rows of windows. The original has none: its side reads every block crossed and copies what the window has of it.
+//! Rows of windows. The original has none: its side reads every block crossed and copies what the window has of it. It
+//! is tight: where the row is under the rule full, its side has the same samples in a tight image.
 
 use std::hint::black_box;
 
-use gezdunar::{Bands, Grid, Window};
+use gezdunar::{Bands, EdgeRule, Grid, Window};
 use original::jbp::image::nc_decoder::UncompressedBlockDecoder;
 use original::owned_buffer::OwnedBuffer;
 
-use crate::blocks::sizes;
+use crate::blocks::{relaid, sizes};
 use crate::buffers::{source, Output};
 use crate::measure::{best, Side};
 use crate::moves::{apply, at_once, crossed, in_answer, of_block, of_image, Memcpy, Move};
@@ -29,9 +30,10 @@ fn read_blocks(decoder: &UncompressedBlockDecoder, parts: &[(Block, Vec<Move>)],
 }
 
 pub fn read(grid: &Grid, window: Window, memcpy: Memcpy) -> Times {
-    let image = source(sizes(grid).image_bytes);
+    let tight = source(sizes(grid).image_bytes);
     let [mut out, mut rust_out, mut copied] = [(); 3].map(|()| Output::new(window_bytes(grid, &window)));
-    let decoder = rust::decoder(grid, image.clone());
+    let decoder = rust::decoder(grid, tight.clone());
+    let image = if grid.edges == EdgeRule::Tight { tight } else { relaid(grid, &tight) };
     let blocks = crossed(grid, &window).into_iter();
     let parts: Vec<_> = blocks.map(|block| (block, of_block(grid, &window, block, in_answer(grid, block)))).collect();
 
