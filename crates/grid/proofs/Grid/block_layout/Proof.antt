@@ -29,30 +29,6 @@ first-is c =
       b .band-bytes .ensures,
     )
 
-band-bytes-requires : tie.Need-band-bytes-requires
-band-bytes-requires c κs = search needs
-
-bands-apart-requires : tie.Need-bands-apart-requires
-bands-apart-requires c κs = search needs
-
-is-byte-multiple-requires : tie.Need-is-byte-multiple-requires
-is-byte-multiple-requires c κs = search needs
-
-actual-rows-requires : tie.Need-actual-rows-requires
-actual-rows-requires c κs = search needs
-
-actual-columns-requires : tie.Need-actual-columns-requires
-actual-columns-requires c κs = search needs
-
-block-index-requires : tie.Need-block-index-requires
-block-index-requires c κs = search needs
-
-block-bytes-requires : tie.Need-block-bytes-requires
-block-bytes-requires c κs = search needs
-
-pick-requires : tie.Need-pick-requires
-pick-requires c κs = search needs
-
 mul-first : tie.Need-mul-first
 mul-first c =
     let i = c .before .before in
@@ -62,9 +38,6 @@ mul-first c =
     let w = runs-in (s .args .self .imode) (s .args .self) f _ (index-lt _ _ _ (s .pre .1)) in
     rw (first-is c) (omega (arith, w .counted, f .image-le))
 
-blocks-requires : tie.Need-blocks-requires
-blocks-requires c κs = search needs
-
 mul-pick : tie.Need-mul-pick
 mul-pick c =
     let i = c .before .before .before in
@@ -72,27 +45,6 @@ mul-pick c =
     let f = facts _ (b .before .pre .0) in
     let g = b .before .args .self in
     rw (c .blocks2 .ensures, b .band-bytes .ensures) (omega (arith, f .image-le, mul-le-mul-left (blocks g * bandBytes g) (f .sides .bands-pos)))
-
-pick-requires-2 : tie.Need-pick-requires-2
-pick-requires-2 c κs = search needs
-
-cast-block-rows : tie.Need-cast-block-rows
-cast-block-rows c = search needs
-
-cast-block-columns : tie.Need-cast-block-columns
-cast-block-columns c = search needs
-
-held-requires : tie.Need-held-requires
-held-requires c κs = search needs
-
-pick-requires-3 : tie.Need-pick-requires-3
-pick-requires-3 c κs = search needs
-
-held-requires-2 : tie.Need-held-requires-2
-held-requires-2 c κs = search needs
-
-pick-requires-4 : tie.Need-pick-requires-4
-pick-requires-4 c κs = search needs
 
 returns : tie.Need-returns
 returns c =
@@ -120,23 +72,7 @@ returns c =
 pub block-layout-spec : {M : Type 1} → statement M
 block-layout-spec =
     tie.close
-    (tie.spec
-    band-bytes-requires
-    bands-apart-requires
-    is-byte-multiple-requires
-    actual-rows-requires
-    actual-columns-requires
-    block-index-requires
-    block-bytes-requires
-    pick-requires
-    mul-first
-    blocks-requires
-    mul-pick
-    pick-requires-2
-    cast-block-rows
-    cast-block-columns
-    held-requires
-    pick-requires-3
-    held-requires-2
-    pick-requires-4
-    returns)
+    (tie.spec (λ c κs. search needs) (λ c κs. search needs) (λ c κs. search needs) (λ c κs. search needs)
+    (λ c κs. search needs) (λ c κs. search needs) (λ c κs. search needs) (λ c κs. search needs) mul-first
+    (λ c κs. search needs) mul-pick (λ c κs. search needs) (λ c. search needs) (λ c. search needs)
+    (λ c κs. search needs) (λ c κs. search needs) (λ c κs. search needs) (λ c κs. search needs) returns)

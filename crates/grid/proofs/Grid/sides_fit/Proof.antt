@@ -9,22 +9,13 @@ use Rattle.common.proofs.Tests.{every-last}
 use Rattle.grid.proofs.Grid.sides_fit.Statement.{statement}
 use Rattle.grid.proofs.Grid.sides_fit.Tie as tie
 
-within-requires : tie.Need-within-requires
-within-requires c κs = search needs
-
 returns : tie.Need-returns
 unfolding q1 every
 returns c = simp (no (c .before .within .ensures) (c .if1 .taken))
 
-within-requires-2 : tie.Need-within-requires-2
-within-requires-2 c κs = search needs
-
 returns-2 : tie.Need-returns-2
 unfolding q1 every
 returns-2 c = simp (yes (c .before .before .before .within .ensures) (c .before .before .if1 .left), no (c .before .within2 .ensures) (c .if2 .taken))
-
-block-side-fits-requires : tie.Need-block-side-fits-requires
-block-side-fits-requires c κs = search needs
 
 returns-3 : tie.Need-returns-3
 unfolding q1 every
@@ -34,9 +25,6 @@ returns-3 c =
       yes (c .before .before .before .within2 .ensures) (c .before .before .if2 .left),
       no (c .before .block-side-fits .ensures) (c .if3 .taken),
     )
-
-block-side-fits-requires-2 : tie.Need-block-side-fits-requires-2
-block-side-fits-requires-2 c κs = search needs
 
 returns-4 : tie.Need-returns-4
 unfolding q1 every
@@ -50,9 +38,6 @@ returns-4 c =
       yes (third .before .block-side-fits .ensures) (third .if3 .left),
       no (c .before .block-side-fits2 .ensures) (c .if4 .taken),
     )
-
-within-requires-3 : tie.Need-within-requires-3
-within-requires-3 c κs = search needs
 
 returns-5 : tie.Need-returns-5
 unfolding q1 every
@@ -71,14 +56,5 @@ returns-5 c =
 pub sides-fit-spec : {M : Type 1} → statement M
 sides-fit-spec =
     tie.close
-    (tie.spec
-    within-requires
-    returns
-    within-requires-2
-    returns-2
-    block-side-fits-requires
-    returns-3
-    block-side-fits-requires-2
-    returns-4
-    within-requires-3
-    returns-5)
+    (tie.spec (λ c κs. search needs) returns (λ c κs. search needs) returns-2 (λ c κs. search needs) returns-3
+    (λ c κs. search needs) returns-4 (λ c κs. search needs) returns-5)

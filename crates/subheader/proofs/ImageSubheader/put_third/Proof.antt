@@ -9,39 +9,6 @@ use Rattle.fields.specs.Fields.{put, number, text, IMODE, NBPR, NBPC, NPPBH, NP
 use Rattle.subheader.proofs.ImageSubheader.put_third.Statement.{statement}
 use Rattle.subheader.proofs.ImageSubheader.put_third.Tie as tie
 
-mode-to-bytes-requires : tie.Need-mode-to-bytes-requires
-mode-to-bytes-requires c κs = search needs
-
-slice-aggregate-put-text : tie.Need-slice-aggregate-put-text
-slice-aggregate-put-text c = search needs
-
-put-text-requires : tie.Need-put-text-requires
-put-text-requires c κs = search needs
-
-put-number-requires : tie.Need-put-number-requires
-put-number-requires c κs = search needs
-
-put-number-requires-2 : tie.Need-put-number-requires-2
-put-number-requires-2 c κs = search needs
-
-written-side-requires : tie.Need-written-side-requires
-written-side-requires c κs = search needs
-
-put-number-requires-3 : tie.Need-put-number-requires-3
-put-number-requires-3 c κs = search needs
-
-written-side-requires-2 : tie.Need-written-side-requires-2
-written-side-requires-2 c κs = search needs
-
-put-number-requires-4 : tie.Need-put-number-requires-4
-put-number-requires-4 c κs = search needs
-
-put-number-requires-5 : tie.Need-put-number-requires-5
-put-number-requires-5 c κs = search needs
-
-same-length : tie.Need-same-length
-same-length c = search needs
-
 returns : tie.Need-returns
 returns c =
     let nbpp = c .before .before in
@@ -68,16 +35,6 @@ returns c =
 pub put-third-spec : {M : Type 1} → statement M
 put-third-spec =
     tie.close
-    (tie.spec
-    mode-to-bytes-requires
-    slice-aggregate-put-text
-    put-text-requires
-    put-number-requires
-    put-number-requires-2
-    written-side-requires
-    put-number-requires-3
-    written-side-requires-2
-    put-number-requires-4
-    put-number-requires-5
-    same-length
-    returns)
+    (tie.spec (λ c κs. search needs) (λ c. search needs) (λ c κs. search needs) (λ c κs. search needs)
+    (λ c κs. search needs) (λ c κs. search needs) (λ c κs. search needs) (λ c κs. search needs) (λ c κs. search needs)
+    (λ c κs. search needs) (λ c. search needs) returns)

@@ -7,21 +7,9 @@ use Rattle.fields.specs.Named.{valueOf}
 use Rattle.fields.proofs.named.ImageCompression.from_bytes.Statement.{statement}
 use Rattle.fields.proofs.named.ImageCompression.from_bytes.Tie as tie
 
-slice-aggregate-same-bytes : tie.Need-slice-aggregate-same-bytes
-slice-aggregate-same-bytes c = search needs
-
-same-bytes-requires : tie.Need-same-bytes-requires
-same-bytes-requires c κs = search needs
-
 returns : tie.Need-returns
 unfolding valueOf pick
 returns c = simp (sym (c .before .same-bytes .ensures) ∙ c .if1 .taken)
-
-slice-aggregate-same-bytes-2 : tie.Need-slice-aggregate-same-bytes-2
-slice-aggregate-same-bytes-2 c = search needs
-
-same-bytes-requires-2 : tie.Need-same-bytes-requires-2
-same-bytes-requires-2 c κs = search needs
 
 returns-2 : tie.Need-returns-2
 unfolding valueOf pick
@@ -42,11 +30,5 @@ returns-3 c =
 pub from-bytes-spec : {M : Type 1} → statement M
 from-bytes-spec =
     tie.close
-    (tie.spec
-    slice-aggregate-same-bytes
-    same-bytes-requires
-    returns
-    slice-aggregate-same-bytes-2
-    same-bytes-requires-2
-    returns-2
+    (tie.spec (λ c. search needs) (λ c κs. search needs) returns (λ c. search needs) (λ c κs. search needs) returns-2
     returns-3)
