@@ -26,8 +26,8 @@ use Rattle.frame.specs.PlainFrame.{total, reachedCount, frameProgress, unreache
 use Rattle.frame.specs.PlainFrame.{frameStep, frameCallAll, asBytes, eachFrom, eachOf, windowBand, frameBytes}
 use Rattle.frame.specs.PlainFrame.{frameWindowBy, frameWindow}
 use Rattle.figures.specs.Instance.{flat, byCalls, byPlainFrame}
-use Rattle.figures.specs.Figures.{Figure, figures, corner, readOf, laid, imageWith, runOf, writeOver, writeOn, maskOf}
+use Rattle.figures.specs.Figures.{Figure, figures, corner, readOf, laid, imageWith, runOf, writeOver, writeOn, maskOf, figureM, listOfCalls}
 
 pub agree : map (λ (f : Figure). f .found) figures ≡ map (λ (f : Figure). f .paper) figures
-unfolding figures corner imageWith laid place bandBytes actualRows actualColumns putBits setBit withBit readOf blockRead blockNumber bytesOf values beBytes sampleAt bitsAt bitAt over tabulate blockSide q1 q3 q4 q6 q8 blockEnd bandCount bandAt allBelow widthTaken every some within pick maskOf toBytes maskWriteNumber isRecordLength records lookupRecord filledBlock tableSize blockRecord tableBytes runOf writeOver writeOn start startNumber write writeNumber skip skipNumber progress progressNumber finish window windowOf windowNumber q7Window q10 crosses pictureAt iter q11 q12 q13 q14 q26 dataAt putBlock clearRuns storeBy marked mark count firstFrom beAt q9 outcome step callAll started frame0 asNumber wholeInData numberInData fitInData inBlock written reach frameWrite frameSkip total reachedCount frameProgress unreachedInRow unreached frameFinish frameStep frameCallAll asBytes eachFrom eachOf windowBand frameBytes frameWindowBy frameWindow flat byCalls byPlainFrame
+unfolding figures figureM listOfCalls corner imageWith laid place bandBytes actualRows actualColumns putBits setBit withBit readOf blockRead blockNumber bytesOf values beBytes sampleAt bitsAt bitAt over tabulate blockSide q1 q3 q4 q6 q8 blockEnd bandCount bandAt allBelow widthTaken every some within pick maskOf toBytes maskWriteNumber isRecordLength records lookupRecord filledBlock tableSize blockRecord tableBytes runOf writeOver writeOn start startNumber write writeNumber skip skipNumber progress progressNumber finish window windowOf windowNumber q7Window q10 crosses pictureAt iter q11 q12 q13 q14 q26 dataAt putBlock clearRuns storeBy marked mark count firstFrom beAt q9 outcome step callAll started frame0 asNumber wholeInData numberInData fitInData inBlock written reach frameWrite frameSkip total reachedCount frameProgress unreachedInRow unreached frameFinish frameStep frameCallAll asBytes eachFrom eachOf windowBand frameBytes frameWindowBy frameWindow flat byCalls byPlainFrame
 agree = refl

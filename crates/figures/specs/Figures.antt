@@ -107,6 +107,34 @@ maskOf offsets =
     let r : WrittenOut = toBytes (gridOf 1 2 1 8 B Tight 1 1) marksMask offsets [] (replicate 18 0) in
     r .answer .number ∷ r .out
 
+-- figure m under an edge rule, with the two bytes that the papers give: the places alone, a run of calls, and a write
+-- over ones
+unfoldable pub figureM : EdgeRule → ℕ → ℕ → List Figure
+figureM rule x y =
+    record {
+      letter = fig-m;
+      found = take 2 (drop 2 (imageWith (edge rule) 0 1 (5 ∷ 9 ∷ [])));
+      paper = x ∷ y ∷ [];
+    }
+    ∷ record {
+      letter = fig-m;
+      found = runOf (edge rule) 0 1 2 1 (5 ∷ 9 ∷ []);
+      paper = 0 ∷ 0 ∷ 1 ∷ 15 ∷ 0 ∷ 0 ∷ x ∷ y ∷ 5 ∷ [];
+    }
+    ∷ record {
+      letter = fig-m;
+      found = writeOver (edge rule) 0 1 2 1 (5 ∷ 9 ∷ []);
+      paper = 0 ∷ 0xFF ∷ 0xFF ∷ x ∷ y ∷ [];
+    }
+    ∷ []
+
+-- the list of calls under an edge rule, as the calls tell it and as the plain frame does
+unfoldable pub listOfCalls : EdgeRule → List Figure
+listOfCalls rule =
+    record { letter = no-letter; found = byCalls rule; paper = byHand }
+    ∷ record { letter = no-letter; found = byPlainFrame rule; paper = byHand }
+    ∷ []
+
 unfoldable pub figures : List Figure
 figures =
     record { letter = fig-a; found = corner B; paper = 48 ∷ 56 ∷ [] }
@@ -160,45 +188,12 @@ figures =
       found = runOf (line 1 10) 0 0 1 10 (1 ∷ 0 ∷ 1 ∷ 1 ∷ 0 ∷ 0 ∷ 0 ∷ 1 ∷ 1 ∷ 1 ∷ []);
       paper = 0 ∷ 0 ∷ 1 ∷ 0 ∷ 0xB1 ∷ 0xC0 ∷ 1 ∷ 0 ∷ 1 ∷ 1 ∷ 0 ∷ 0 ∷ 0 ∷ 1 ∷ 1 ∷ 1 ∷ [];
     }
-    ∷ record {
-      letter = fig-m;
-      found = take 2 (drop 2 (imageWith (edge Tight) 0 1 (5 ∷ 9 ∷ [])));
-      paper = 0x59 ∷ 0x00 ∷ [];
-    }
-    ∷ record {
-      letter = fig-m;
-      found = runOf (edge Tight) 0 1 2 1 (5 ∷ 9 ∷ []);
-      paper = 0 ∷ 0 ∷ 1 ∷ 15 ∷ 0 ∷ 0 ∷ 0x59 ∷ 0x00 ∷ 5 ∷ [];
-    }
-    ∷ record {
-      letter = fig-m;
-      found = writeOver (edge Tight) 0 1 2 1 (5 ∷ 9 ∷ []);
-      paper = 0 ∷ 0xFF ∷ 0xFF ∷ 0x59 ∷ 0x00 ∷ [];
-    }
-    ∷ record {
-      letter = fig-m;
-      found = take 2 (drop 2 (imageWith (edge Full) 0 1 (5 ∷ 9 ∷ [])));
-      paper = 0x50 ∷ 0x90 ∷ [];
-    }
-    ∷ record {
-      letter = fig-m;
-      found = runOf (edge Full) 0 1 2 1 (5 ∷ 9 ∷ []);
-      paper = 0 ∷ 0 ∷ 1 ∷ 15 ∷ 0 ∷ 0 ∷ 0x50 ∷ 0x90 ∷ 5 ∷ [];
-    }
-    ∷ record {
-      letter = fig-m;
-      found = writeOver (edge Full) 0 1 2 1 (5 ∷ 9 ∷ []);
-      paper = 0 ∷ 0xFF ∷ 0xFF ∷ 0x50 ∷ 0x90 ∷ [];
-    }
-    ∷ record {
+    ∷ (figureM Tight 0x59 0x00 ++ figureM Full 0x50 0x90
+    ++ (record {
       letter = fig-n;
       found = maskOf (0 ∷ 0xFFFF_FFFF ∷ []);
       paper =
           0 ∷ 0x00 ∷ 0x00 ∷ 0x00 ∷ 0x12 ∷ 0x00 ∷ 0x04 ∷ 0x00 ∷ 0x00 ∷ 0x00 ∷ 0x00
           ∷ 0x00 ∷ 0x00 ∷ 0x00 ∷ 0x00 ∷ 0xFF ∷ 0xFF ∷ 0xFF ∷ 0xFF ∷ [];
     }
-    ∷ record { letter = no-letter; found = byCalls Tight; paper = byHand }
-    ∷ record { letter = no-letter; found = byPlainFrame Tight; paper = byHand }
-    ∷ record { letter = no-letter; found = byCalls Full; paper = byHand }
-    ∷ record { letter = no-letter; found = byPlainFrame Full; paper = byHand }
-    ∷ []
+    ∷ (listOfCalls Tight ++ listOfCalls Full)))

@@ -64,9 +64,14 @@ modeOf byte =
     pick (eqb byte 66) (Mode B)
     (pick (eqb byte 80) (Mode P) (pick (eqb byte 82) (Mode R) (pick (eqb byte 83) (Mode S) NoMode)))
 
--- the edge rule of a letter's byte
+-- the letter of an edge rule, T or F, and the rule of a letter's byte
+abbrev pub edgesLetter : EdgeRule → ℕ
+edgesLetter Tight = 84
+edgesLetter Full = 70
+
 unfoldable pub ruleOf : ℕ → NamedRule
-ruleOf byte = pick (eqb byte 84) (Rule Tight) (pick (eqb byte 70) (Rule Full) NoRule)
+ruleOf byte =
+    pick (eqb byte (edgesLetter Tight)) (Rule Tight) (pick (eqb byte (edgesLetter Full)) (Rule Full) NoRule)
 
 -- what a call gives in a known mode, under a known rule or on a known grid, and what it gives where the byte is none
 abbrev pub onMode : {A : Type 0} → NamedMode → (InterleaveMode → A) → A → A
@@ -110,21 +115,21 @@ writtenOut answer out = record { answer = answer; out = out }
 abbrev pub marksOut : Parsed → List ℕ → MarksOut
 marksOut answer out = record { answer = answer; out = out }
 
--- the answers where a byte is no mode or no rule
-abbrev pub noModeShape : Shape
-noModeShape = noShape 99
+-- the answers where the grid is unknown, since a byte is no mode or no rule
+abbrev pub unknownShape : Shape
+unknownShape = noShape 99
 
-abbrev pub noModeParsed : Parsed
-noModeParsed = record { number = 99; mask = noMask; used = 0 }
+abbrev pub unknownParsed : Parsed
+unknownParsed = record { number = 99; mask = noMask; used = 0 }
 
-abbrev pub noModePresent : Present
-noModePresent = record { number = 99; present = false }
+abbrev pub unknownPresent : Present
+unknownPresent = record { number = 99; present = false }
 
-abbrev pub noModeOffset : BlockOffset
-noModeOffset = record { number = 99; given = false; offset = 0 }
+abbrev pub unknownOffset : BlockOffset
+unknownOffset = record { number = 99; given = false; offset = 0 }
 
-abbrev pub noModeWritten : Written
-noModeWritten = record { number = 99; bytes = 0 }
+abbrev pub unknownWritten : Written
+unknownWritten = record { number = 99; bytes = 0 }
 
 -- ---- the mask's header, the whole block and the sizes
 

@@ -2,6 +2,7 @@
 -- 99, then one that is no named value with 24, before question 1.
 -- Assumes nothing.
 use Prim.Native.Nat.{ℕ}
+use mathlib.Core.Path.{_≡_}
 use mathlib.Core.Bool.{Bool}
 use mathlib.Core.List.{List, [], _∷_}
 use lib.ListN.{getD, replicate}
@@ -9,7 +10,6 @@ use Rattle.common.specs.Questions.{outcome}
 use Rattle.common.specs.Tests.{every, pick}
 use Rattle.layout.specs.declared.InterleaveMode.the-variants.{B}
 use Rattle.grid.specs.declared.EdgeRule.{EdgeRule}
-use Rattle.grid.specs.declared.EdgeRule.the-variants.{Tight, Full}
 use Rattle.grid.specs.declared.Grid.{Grid}
 use Rattle.fields.specs.declared.named.PixelValueType.the-variants.{UnsignedInt}
 use Rattle.fields.specs.declared.named.PixelJustification.the-variants.{Right}
@@ -22,14 +22,10 @@ use Rattle.subheader.specs.Subheader.{PartsOut, partsOut, writeSubheader}
 use Rattle.gezdunar.specs.declared.GridNumbers.{GridNumbers}
 use Rattle.gezdunar.specs.declared.SubheaderBytes.{SubheaderBytes}
 use Rattle.gezdunar.specs.declared.SubheaderAnswer.{SubheaderAnswer}
-use Rattle.gezdunar.specs.Boundary.{ruleOf, onRule, gridIn}
+use Rattle.gezdunar.specs.declared.names.NamedGrid.the-variants.{Known}
+use Rattle.gezdunar.specs.Boundary.{edgesLetter, ruleOf, onRule, gridIn, namedGrid}
 
 -- ---- reading
-
--- the letter of an edge rule
-abbrev pub edgesLetter : EdgeRule → ℕ
-edgesLetter Tight = 84
-edgesLetter Full = 70
 
 -- a grid's numbers
 abbrev pub numbersIn : Grid → GridNumbers
@@ -46,6 +42,10 @@ numbersIn g =
       nbpr = g .nbpr;
       nbpc = g .nbpc;
     }
+
+-- the numbers that the reader answers name its grid in every call
+abbrev pub NumbersNameTheGrid : Type 0
+NumbersNameTheGrid = (g : Grid) → namedGrid (numbersIn g) ≡ Known g
 
 abbrev pub bytesOf : ImageSubheader → SubheaderBytes
 bytesOf s =

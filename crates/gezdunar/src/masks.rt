@@ -2,7 +2,7 @@
 ghost use mathlib.Core.Path.{_≡_};
 ghost use Rattle.mask.specs.Mask.{parse, hasBlock, getBlockOffset, toBytes, fromProvidedBlocks};
 ghost use Rattle.gezdunar.specs.Boundary.{namedGrid, onGrid, headerOf, writtenOut, marksOut};
-ghost use Rattle.gezdunar.specs.Boundary.{noModeParsed, noModePresent, noModeOffset, noModeWritten};
+ghost use Rattle.gezdunar.specs.Boundary.{unknownParsed, unknownPresent, unknownOffset, unknownWritten};
 use crate::GridNumbers;
 use crate::names::NamedGrid;
 use crate::names::named_grid;
@@ -28,7 +28,7 @@ const NO_MODE: Parsed = Parsed {
 // Reads a table's header and pad code.
 #[no_mangle]
 pub extern "C" fn gezdunar_mask_parse(table: &[u8], numbers: GridNumbers) -> Parsed
-    ensures { λ r. ⌜ r ≡ onGrid (namedGrid numbers) (λ g. parse g (now (table .entry))) noModeParsed ⌝ }
+    ensures { λ r. ⌜ r ≡ onGrid (namedGrid numbers) (λ g. parse g (now (table .entry))) unknownParsed ⌝ }
 {
     match named_grid(numbers) {
         NamedGrid::Known(grid) => ImageDataMask::parse(table, grid),
@@ -46,7 +46,7 @@ pub extern "C" fn gezdunar_has_block(
     band: u32,
 ) -> Present
     ensures { λ r. ⌜ r ≡ onGrid (namedGrid numbers)
-        (λ g. hasBlock g (now (table .entry)) «block_row» «block_col» band) noModePresent ⌝ }
+        (λ g. hasBlock g (now (table .entry)) «block_row» «block_col» band) unknownPresent ⌝ }
 {
     match named_grid(numbers) {
         NamedGrid::Known(grid) => ImageDataMask::has_block(table, grid, block_row, block_col, band),
@@ -67,7 +67,7 @@ pub extern "C" fn gezdunar_get_block_offset(
     band: u32,
 ) -> BlockOffset
     ensures { λ r. ⌜ r ≡ onGrid (namedGrid numbers)
-        (λ g. getBlockOffset g (now (table .entry)) «block_row» «block_col» band) noModeOffset ⌝ }
+        (λ g. getBlockOffset g (now (table .entry)) «block_row» «block_col» band) unknownOffset ⌝ }
 {
     match named_grid(numbers) {
         NamedGrid::Known(grid) => ImageDataMask::get_block_offset(
@@ -100,7 +100,7 @@ pub extern "C" fn gezdunar_mask_write(
     ensures { λ r. ⌜ writtenOut r (now (out .exit)) ≡ onGrid (namedGrid numbers)
         (λ g. toBytes g (headerOf «block_record_length» «pad_record_length» «code_length» code)
         (now («block_offsets» .entry)) (now («pad_offsets» .entry)) (now (out .entry)))
-        (writtenOut noModeWritten (now (out .entry))) ⌝ }
+        (writtenOut unknownWritten (now (out .entry))) ⌝ }
 {
     let mask = ImageDataMask {
         image_data_offset: 0,
@@ -127,7 +127,7 @@ pub extern "C" fn gezdunar_mask_from_marks(
 ) -> Parsed
     ensures { λ r. ⌜ marksOut r (now (out .exit)) ≡ onGrid (namedGrid numbers)
         (λ g. fromProvidedBlocks g (now (marks .entry)) (now (out .entry)))
-        (marksOut noModeParsed (now (out .entry))) ⌝ }
+        (marksOut unknownParsed (now (out .entry))) ⌝ }
 {
     match named_grid(numbers) {
         NamedGrid::Known(grid) => ImageDataMask::from_provided_blocks(marks, grid, out),

@@ -5,7 +5,7 @@ ghost use Rattle.calls.specs.Orders.{rectangle};
 ghost use Rattle.layout.specs.Bands.{bandsOf};
 ghost use Rattle.grid.specs.Check.{gridNumber};
 ghost use Rattle.calls.specs.Reads.{filledWith, blockRead, window};
-ghost use Rattle.gezdunar.specs.Boundary.{namedGrid, onGrid, noModeShape, emptyAt, wholePlace};
+ghost use Rattle.gezdunar.specs.Boundary.{namedGrid, onGrid, unknownShape, emptyAt, wholePlace};
 use crate::GridNumbers;
 use crate::Place;
 use crate::names::NamedGrid;
@@ -47,7 +47,7 @@ pub extern "C" fn gezdunar_decode_block(
     ensures { λ r. ⌜ filledWith r (now (out .exit)) ≡ onGrid (namedGrid numbers)
         (λ g. blockRead g (now (image .entry)) «block_row» «block_col» «resolution_level»
         (bandsOf all (now (list .entry))) (now (out .entry)))
-        (filledWith noModeShape (now (out .entry))) ⌝ }
+        (filledWith unknownShape (now (out .entry))) ⌝ }
 {
     match named_grid(numbers) {
         NamedGrid::Known(grid) => reading::decode_block(
@@ -80,7 +80,7 @@ pub extern "C" fn gezdunar_read_window(
     ensures { λ r. ⌜ filledWith r (now (out .exit)) ≡ onGrid (namedGrid numbers)
         (λ g. window g (now (image .entry))
         (rectangle row column rows columns (bandsOf all (now (list .entry)))) (now (out .entry)))
-        (filledWith noModeShape (now (out .entry))) ⌝ }
+        (filledWith unknownShape (now (out .entry))) ⌝ }
 {
     match named_grid(numbers) {
         NamedGrid::Known(grid) => windows::read_window(

@@ -1,8 +1,8 @@
 // The subheader's fields across the boundary.
 ghost use mathlib.Core.Path.{_≡_};
 ghost use Rattle.subheader.specs.Subheader.{partsOut, readSubheader};
-ghost use Rattle.gezdunar.specs.Subheaders.{edgesLetter, numbersIn, bytesOf, noBytes, answerOf};
-ghost use Rattle.gezdunar.specs.Boundary.{onRule, ruleOf};
+ghost use Rattle.gezdunar.specs.Subheaders.{numbersIn, bytesOf, noBytes, answerOf};
+ghost use Rattle.gezdunar.specs.Boundary.{edgesLetter, onRule, ruleOf};
 ghost use Rattle.gezdunar.specs.Subheaders.{areNamed, fieldsOf, writeUnder, writeBytes};
 use crate::GridNumbers;
 use crate::SubheaderAnswer;

@@ -5,7 +5,7 @@ use mathlib.Core.Path.{_≡_}
 use mathlib.Core.Bool.{true}
 use Rattle.grid.specs.declared.EdgeRule.{EdgeRule}
 use Rattle.grid.specs.declared.Grid.{Grid}
-use Rattle.grid.specs.Sizes.{byteMultiple, imageBytes}
+use Rattle.grid.specs.Sizes.{byteMultiple, imageBytes, actualRows, actualColumns}
 use Rattle.grid.specs.Check.{gridNumber}
 use Rattle.grid.specs.Layout.{place, blockEnd, wholeStart, wholeLength}
 
@@ -31,8 +31,15 @@ ByteMultiplesLieTheSame =
     (e : EdgeRule) (g : Grid) (row column b r c : ℕ) → byteMultiple g ≡ true
     → place (withRule e g) row column b r c ≡ place g row column b r c
 
+-- so does every block that is whole inside the picture, at every width
+abbrev pub BlocksInsideLieTheSame : Type 0
+BlocksInsideLieTheSame =
+    (e : EdgeRule) (g : Grid) (row column b r c : ℕ)
+    → actualRows g row ≡ g .nppbv → actualColumns g column ≡ g .nppbh
+    → place (withRule e g) row column b r c ≡ place g row column b r c
+
 -- at every width a grid has one number, one size of the image, and each block one end and one place under both
-pub record SameUnder (e : EdgeRule) (g : Grid) (row column : ℕ) : Type 0 where
+pub record SameBlock (e : EdgeRule) (g : Grid) (row column : ℕ) : Type 0 where
   pub number : gridNumber (withRule e g) ≡ gridNumber g
   pub image : imageBytes (withRule e g) ≡ imageBytes g
   pub end : blockEnd (withRule e g) row column ≡ blockEnd g row column
@@ -40,4 +47,4 @@ pub record SameUnder (e : EdgeRule) (g : Grid) (row column : ℕ) : Type 0 where
   pub whole-length : wholeLength (withRule e g) ≡ wholeLength g
 
 abbrev pub RuleMovesNoBlock : Type 0
-RuleMovesNoBlock = (e : EdgeRule) (g : Grid) (row column : ℕ) → SameUnder e g row column
+RuleMovesNoBlock = (e : EdgeRule) (g : Grid) (row column : ℕ) → SameBlock e g row column
