@@ -33,7 +33,7 @@ fn columns_of(block_col: u32) -> usize
 }
 
 // A block: its actual rows and columns, and the row and column of the cube where it starts.
-#[derive(Drop)]
+#[derive(Clone, Copy)]
 struct Block {
     rows: usize,
     columns: usize,

@@ -1,12 +1,11 @@
 -- Tests that go through a flag.
 -- Assumes nothing.
 use mathlib.Core.Path.{◌≡◌, sym, ◌∙◌}
-use mathlib.Core.Bool.{Bool, true, false, not}
-use borrow.Author.Tests.{not-true, not-false}
+use mathlib.Core.Bool.{Bool, true, false}
 
--- a result that is a definition's value, and the branch on its negation
-pub no : {t u : Bool} → t ≡ u → not t ≡ true → u ≡ false
-no {t} e h = sym e ∙ not-true t h
+-- a result that is a definition's value, and the branch on it
+pub no : {t u : Bool} → t ≡ u → t ≡ false → u ≡ false
+no e h = sym e ∙ h
 
-pub yes : {t u : Bool} → t ≡ u → not t ≡ false → u ≡ true
-yes {t} e h = sym e ∙ not-false t h
+pub yes : {t u : Bool} → t ≡ u → t ≡ true → u ≡ true
+yes e h = sym e ∙ h

@@ -50,9 +50,9 @@ module _ {ℓ} {A : Type ℓ} where
       let k : o + length vs < length (over d o vs) = rw length_over h in
       sym (over-one (over d o vs) (o + length vs) v k) ∙ over-over d o vs (v ∷ []) (omega arith)
 
-  pub get_or_over_in : (d : List A) (o : ℕ) (vs : List A) (i : ℕ) (z : A) → o + length vs ≤ length d → i < length vs → get_or (over d o vs) (o + i) z ≡ get_or vs i z
+  pub get_or-over_in : (d : List A) (o : ℕ) (vs : List A) (i : ℕ) (z : A) → o + length vs ≤ length d → i < length vs → get_or (over d o vs) (o + i) z ≡ get_or vs i z
   unfolding over
-  get_or_over_in d o vs i z h l =
+  get_or-over_in d o vs i z h l =
       let e : length (take o d) ≡ o = length-take-le o d (omega arith) in
       let k : o + i < length (take o d ++ vs) = simp (length-append, e) (omega arith) in
       get_or-append (take o d ++ vs) (drop (o + length vs) d) z (o + i) k

@@ -11,7 +11,7 @@ use borrow.Author.Tests.{le-leb}
 use lib.ListN.{length, get_or, drop, length-append}
 use lib.Seq.{drop-cons}
 use Rattle.common.specs.Tests.{every, within}
-use Rattle.digits.specs.Digits.{is_digit_lem, are_digits, with_digits, number_of, digit_bytes, DigitsComeBack}
+use Rattle.digits.specs.Digits.{is_digit, are_digits, with_digits, number_of, digit_bytes, DigitsComeBack}
 use Rattle.common.proofs.Tests.{every-at, every-last, within-facts}
 
 pub length-digit_bytes : (s n : ℕ) → length (digit_bytes s n) ≡ s
@@ -35,7 +35,7 @@ digit-first x xs e =
     let w = within-facts 0x30 0x39 x (a 0) in
     record { low = w.low; high = w.high; rest = a 1 }
 
-is_digit_lem : (x : ℕ) → 0x30 ≤ x → x ≤ 0x39 → is_digit_lem x ≡ true
+is_digit_lem : (x : ℕ) → 0x30 ≤ x → x ≤ 0x39 → is_digit x ≡ true
 unfolding within every
 is_digit_lem x l h = rw (le-leb 0x30 x l, le-leb x 0x39 h)
 
@@ -43,8 +43,8 @@ pub digits_append : (xs ys : List ℕ) → are_digits xs ≡ true → are_digits
 unfolding are_digits every
 digits_append [] ys e f = f
 digits_append (x ∷ xs) ys e f =
-    let a = every-at (is_digit_lem x ∷ are_digits xs ∷ []) e in
-    let first : is_digit_lem x ≡ true = a 0 in
+    let a = every-at (is_digit x ∷ are_digits xs ∷ []) e in
+    let first : is_digit x ≡ true = a 0 in
     let rest : are_digits (xs ++ ys) ≡ true = digits_append xs ys (a 1) f in
     rw (first, rest)
 
@@ -56,11 +56,11 @@ digits_are (suc s) n =
     (rw (is_digit_lem (0x30 + n % 10) (omega arith) (omega arith)))
 
 -- the digits from index j on: one that is none stops, one that is one leaves the rest
-pub digits_stop : (xs : List ℕ) (j : ℕ) → j < length xs → is_digit_lem (get_or xs j 0) ≡ false → are_digits (drop j xs) ≡ false
+pub digits_stop : (xs : List ℕ) (j : ℕ) → j < length xs → is_digit (get_or xs j 0) ≡ false → are_digits (drop j xs) ≡ false
 unfolding are_digits every
 digits_stop xs j h e = rw (drop-cons xs j 0 h, e)
 
-pub digits-go : (xs : List ℕ) (j : ℕ) → j < length xs → is_digit_lem (get_or xs j 0) ≡ true → are_digits (drop (j + 1) xs) ≡ are_digits (drop j xs)
+pub digits-go : (xs : List ℕ) (j : ℕ) → j < length xs → is_digit (get_or xs j 0) ≡ true → are_digits (drop (j + 1) xs) ≡ are_digits (drop j xs)
 unfolding are_digits every
 digits-go xs j h e = rw (add-one, drop-cons xs j 0 h, e) (every-last _)
 

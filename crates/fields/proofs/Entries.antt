@@ -10,7 +10,7 @@ use lib.Seq.{ext_get_or, get_or-take, get_or-drop, drop-drop, length-take-le}
 use Rattle.common.specs.Over.{over}
 use Rattle.fields.specs.declared.Field.{Field}
 use Rattle.fields.specs.Fields.{field, bytes_in, Entry, put, put_all}
-use Rattle.common.proofs.Over.{length_over, get_or_over_in, get_or-over-before}
+use Rattle.common.proofs.Over.{length_over, get_or-over_in, get_or-over-before}
 
 pub length-bytes_in : (part : List ℕ) (f : Field) → f.at + f.size ≤ length part → length (bytes_in part f) ≡ f.size
 unfolding bytes_in
@@ -50,7 +50,7 @@ pub bytes_in-put : (part : List ℕ) (e : Entry) → Fits (length part) e → by
 bytes_in-put part e f =
     let l : length (put part e) ≡ length part = length-put part e f in
     bytes_in-is (put part e) e.place e.bytes (omega (arith, l, f.inside)) f.long
-    (λ i h. get_or_over_in part e.place.at e.bytes i 0 (omega (arith, f.long, f.inside)) (omega (arith, f.long)))
+    (λ i h. get_or-over_in part e.place.at e.bytes i 0 (omega (arith, f.long, f.inside)) (omega (arith, f.long)))
 
 -- a field that ends before the entry's begins is kept
 pub bytes_in-before : (part : List ℕ) (e : Entry) (f : Field) → Fits (length part) e → f.at + f.size ≤ e.place.at

@@ -1,4 +1,5 @@
 // The fields of three parts of an image subheader: where each stands, and how it is read and written.
+#![tactic(auto)]
 ghost use Rattle.std.specs.Prelude.{◌≡◌, true, ◌+◌, ◌≤◌, length};
 ghost use Rattle.fields.specs.Fields.{bytes_in, is_number, number_in, put, number, text as textEntry};
 
@@ -9,7 +10,7 @@ pub mod named;
 pub mod sides;
 
 // A field: its first byte in its part, and its bytes.
-#[derive(Drop)]
+#[derive(Clone, Copy)]
 pub struct Field {
     pub at: usize,
     pub size: usize,
@@ -64,8 +65,8 @@ impl Field {
 
     // The number that they give.
     pub fn number_in(self, part: &[u8]) -> u32
-        requires size_in_bounds { (self.at + self.size ≤ length part.now) × (self.size ≤ 9) }
-        requires self_value { is_number part.now self ≡ true }
+        requires in_part { (self.at + self.size ≤ length part.now) × (self.size ≤ 9) }
+        requires digits { is_number part.now self ≡ true }
         ensures { result ≡ number_in part.now self }
     {
         number_of(self.bytes_in(part))

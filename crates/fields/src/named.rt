@@ -10,7 +10,7 @@ ghost use Rattle.fields.specs.Named.{pvtypes, pvtype_text, pjusts, pjust_text, i
 use layout::InterleaveMode;
 
 // PVTYPE: what a sample's bits are.
-#[derive(Drop)]
+#[derive(Clone, Copy)]
 pub enum PixelValueType {
     UnsignedInt,
     SignedInt,
@@ -20,14 +20,14 @@ pub enum PixelValueType {
 }
 
 // PJUST: at which end of a sample its ABPP bits stand.
-#[derive(Drop)]
+#[derive(Clone, Copy)]
 pub enum PixelJustification {
     Right,
     Left,
 }
 
 // IC: without compression, as a whole or masked.
-#[derive(Drop)]
+#[derive(Clone, Copy)]
 pub enum ImageCompression {
     NC,
     NM,

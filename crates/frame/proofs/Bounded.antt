@@ -13,7 +13,7 @@ use lib.Seq.{get_or-take, get_or-set_same, get_or-set_other, set_out}
 use Rattle.bits.specs.Bits.{bit_of, with_bit, with_field, set_bit, put_bits}
 use Rattle.common.specs.Over.{over}
 use Rattle.bits.proofs.Bits.{with_field_lt}
-use Rattle.common.proofs.Over.{get_or_over_in, get_or-over-before, get_or-over-after}
+use Rattle.common.proofs.Over.{get_or-over_in, get_or-over-before, get_or-over-after}
 use Rattle.grid.specs.declared.Grid.{Grid}
 use Rattle.grid.specs.Sizes.{band_bytes, image_bytes, block_index, byte_multiple}
 use Rattle.grid.specs.Layout.{run_byte, Block}
@@ -88,7 +88,7 @@ module _ (w n : ℕ) (xs : List ℕ) (o t : ℕ) (fits : o + t ≤ length xs)
           let e : o + (i - o) ≡ i = omega arith in
           subst (λ (x : ℕ). x < 2 ^ w)
           (sym (get_or-replicate {A = ℕ} t (i - o) 0 0 (omega arith))
-          ∙ sym (get_or_over_in xs o (replicate t 0) (i - o) 0 (omega (arith, size)) (omega (arith, size)))
+          ∙ sym (get_or-over_in xs o (replicate t 0) (i - o) 0 (omega (arith, size)) (omega (arith, size)))
           ∙ ap (λ (j : ℕ). get_or (over xs o (replicate t 0)) j 0) e) (pow_pos w)
       go (no a) (no b) =
           rw (get_or-over-after xs o (replicate t 0) i 0 (omega (arith, size)) (omega (arith, size)))

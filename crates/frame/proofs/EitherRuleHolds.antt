@@ -15,14 +15,14 @@ use Rattle.grid.specs.declared.Grid.{Grid}
 use Rattle.grid.specs.Sizes.{band_bytes, actual_rows, actual_columns, byte_multiple}
 use Rattle.grid.specs.Check.{q1, q3, q4, q6, q11}
 use Rattle.grid.specs.EdgeRules.{with_rule}
-use Rattle.grid.proofs.EdgeRules.{byte_multiples_lie_the_same, rule_moves_no_block}
+use Rattle.grid.proofs.EdgeRules.{byte_multiples_lie_the_same, rule_moves_no-block}
 use Rattle.calls.specs.Orders.{Window, q10, crosses, q7_window, window_number, q13, q14, q26, start_number, write_number, skip_number, progress_number}
 use Rattle.calls.specs.Reads.{window}
 use Rattle.calls.specs.Writes as W
 use Rattle.frame.specs.Call.{Call, write, skip, progress, finish}
 use Rattle.frame.specs.Calls.{State, Step, Start, Called, step, call_all, started}
 use Rattle.frame.specs.PlainFrame.{Frame, FrameStep, FrameCalled, frame0, whole_in_data, number_in_data, fit_in_data, in_block, written, reached_count}
-use Rattle.frame.specs.PlainFrame.{frame_write, frame_skip, frame_progress, frame_finish, frame_step_lem, frame_call_all, window_band, frame_bytes, frame_window_by, frame_window}
+use Rattle.frame.specs.PlainFrame.{frame_write, frame_skip, frame_progress, frame_finish, frame_step, frame_call_all, window_band, frame_bytes, frame_window_by, frame_window}
 use Rattle.frame.specs.Demand3.{plain}
 use Rattle.frame.specs.EitherRule.{start_under, state_under, EitherRule}
 use Rattle.frame.proofs.Demand3Holds.{demand3}
@@ -45,8 +45,8 @@ frame_step_under e o = record { answer = o.answer; frame = frame_under e o.frame
 abbrev frame_called_under : EdgeRule → FrameCalled → FrameCalled
 frame_called_under e r = record { answers = r.answers; frame = frame_under e r.frame }
 
-frame_step_lem : (e : EdgeRule) (c : Call) (f : Frame) → frame_step_lem c (frame_under e f) ≡ frame_step_under e (frame_step_lem c f)
-unfolding frame_step_lem frame_write frame_skip frame_progress frame_finish start_number write_number skip_number progress_number fit_in_data written in_block number_in_data whole_in_data reached_count actual_rows actual_columns band_bytes q1 q3 q4 q6 q11 q13 q14
+frame_step_lem : (e : EdgeRule) (c : Call) (f : Frame) → frame_step c (frame_under e f) ≡ frame_step_under e (frame_step c f)
+unfolding frame_step frame_write frame_skip frame_progress frame_finish start_number write_number skip_number progress_number fit_in_data written in_block number_in_data whole_in_data reached_count actual_rows actual_columns band_bytes q1 q3 q4 q6 q11 q13 q14
 frame_step_lem e (write n m row column bands rows columns dat) f = outcome-map (frame_step_under e) _ _ _
 frame_step_lem e (skip n m row column) f = outcome-map (frame_step_under e) _ _ _
 frame_step_lem e (progress m) f = refl
@@ -56,7 +56,7 @@ frame-calls : (e : EdgeRule) (cs : List Call) (f : Frame) → frame_call_all cs 
 unfolding frame_call_all
 frame-calls e [] f = refl
 frame-calls e (c ∷ cs) f =
-    rw (frame_step_lem e c f, frame-calls e cs (frame_step_lem c f).frame)
+    rw (frame_step_lem e c f, frame-calls e cs (frame_step c f).frame)
 
 plain_under : (e : EdgeRule) (s : Start) (cs : List Call) → plain (start_under e s) cs ≡ frame_called_under e (plain s cs)
 unfolding frame0
@@ -68,7 +68,7 @@ same-q7 : (e : EdgeRule) (g : Grid) (n : ℕ) (w : Window) → q7_window (with_r
 unfolding q7_window crosses
 same-q7 e g n w =
     below_ext g.nbpc _ _ (λ row l. below_ext g.nbpr _ _ (λ column m.
-    rw (rule_moves_no_block e g row column).end))
+    rw (rule_moves_no-block e g row column).end))
 
 same-window : (e : EdgeRule) (f : Frame) (n : ℕ) (w : Window) (out : List ℕ) → frame_window (frame_under e f) n w out ≡ frame_window f n w out
 unfolding frame_window frame_window_by window_number frame_bytes window_band q1 q3 q4 q10 band_bytes

@@ -11,7 +11,7 @@ use lib.ListN.{length, get_or, take, drop, replicate, length-replicate, get_or-r
 use lib.Seq.{get_or-take, drop-drop, drop-set-lt}
 use Rattle.bits.specs.Bits.{bit_of, bit_at, set_bit, put_bits}
 use Rattle.common.specs.Over.{over}
-use Rattle.common.proofs.Over.{drop-over, get_or_over_in, get_or-over-before, get_or-over-after}
+use Rattle.common.proofs.Over.{drop-over, get_or-over_in, get_or-over-before, get_or-over-after}
 
 -- ---- the front of a list
 
@@ -41,7 +41,7 @@ module _ (xs : List ℕ) (o t : ℕ) (fits : o + t ≤ length xs) where
       let e : p / 8 ≡ o + (p / 8 - o) = omega arith in
       ap (λ (x : ℕ). bit_of x (7 - p % 8))
       (ap (λ (i : ℕ). get_or (over xs o (replicate t 0)) i 0) e
-      ∙ get_or_over_in xs o (replicate t 0) (p / 8 - o) 0 (omega (arith, size)) (omega (arith, size))
+      ∙ get_or-over_in xs o (replicate t 0) (p / 8 - o) 0 (omega (arith, size)) (omega (arith, size))
       ∙ get_or-replicate t (p / 8 - o) 0 0 (omega arith))
       ∙ bit_zero (7 - p % 8)
 

@@ -1,5 +1,6 @@
 // The C boundary: one function for each call, over the proved entry points. Slices cross as a pointer and a length,
 // the grid as a struct of its numbers; a byte that is no mode, or no edge rule, is refused with 99, before question 1.
+#![tactic(auto)]
 mod masks;
 mod names;
 mod reads;
@@ -10,7 +11,7 @@ mod writes;
 
 // The grid's numbers, IMODE as its letter's byte, and the edge rule as T or F.
 #[repr(C)]
-#[derive(Drop)]
+#[derive(Clone, Copy)]
 pub struct GridNumbers {
     pub nrows: u32,
     pub ncols: u32,
@@ -26,7 +27,7 @@ pub struct GridNumbers {
 
 // The fields of an image subheader, named values as their bytes.
 #[repr(C)]
-#[derive(Drop)]
+#[derive(Clone, Copy)]
 pub struct SubheaderBytes {
     pub pvtype: [u8; 3],
     pub irep: [u8; 8],
@@ -39,7 +40,7 @@ pub struct SubheaderBytes {
 
 // What the reader of a subheader answers.
 #[repr(C)]
-#[derive(Drop)]
+#[derive(Clone, Copy)]
 pub struct SubheaderAnswer {
     pub number: u32,
     pub subheader: SubheaderBytes,
@@ -47,7 +48,7 @@ pub struct SubheaderAnswer {
 
 // Where a part of the image lies, and the call's number.
 #[repr(C)]
-#[derive(Drop)]
+#[derive(Clone, Copy)]
 pub struct Place {
     pub number: u32,
     pub start: usize,
@@ -57,7 +58,7 @@ pub struct Place {
 // Sizes of a grid, and its number: bytes of a sample in lent data, of a band of a block, of a block, of the image, the
 // blocks of the picture and the words for their marks.
 #[repr(C)]
-#[derive(Drop)]
+#[derive(Clone, Copy)]
 pub struct GridSizes {
     pub number: u32,
     pub sample_bytes: usize,

@@ -7,21 +7,21 @@ use grid::{EdgeRule, Grid};
 use layout::InterleaveMode;
 
 // The mode of a byte.
-#[derive(Drop)]
+#[derive(Clone, Copy)]
 pub enum NamedMode {
     Mode(InterleaveMode),
     NoMode,
 }
 
 // The edge rule of a byte.
-#[derive(Drop)]
+#[derive(Clone, Copy)]
 pub enum NamedRule {
     Rule(EdgeRule),
     NoRule,
 }
 
 // The grid that numbers name, unless IMODE's byte is no mode or the rule's byte is no rule.
-#[derive(Drop)]
+#[derive(Clone, Copy)]
 pub enum NamedGrid {
     Known(Grid),
     Unknown,

@@ -27,18 +27,18 @@ place-held true e g row column b r c hr hc = refl
 place-held false e g row column b r c hr hc =
     rw (hr, hc, held_whole e g.nppbv, held_whole e g.nppbh, held_whole g.edges g.nppbv, held_whole g.edges g.nppbh)
 
-pub blocks_inside_lie_the_same : BlocksInsideLieTheSame
+pub blocks-inside_lie_the_same : BlocksInsideLieTheSame
 unfolding place
-blocks_inside_lie_the_same e g row column b r c hr hc = place-held (byte_multiple g) e g row column b r c hr hc
+blocks-inside_lie_the_same e g row column b r c hr hc = place-held (byte_multiple g) e g row column b r c hr hc
 
 same_end : (w : Bool) (e : EdgeRule) (g : Grid) (row column : ℕ) → block_end_by w (with_rule e g) row column ≡ block_end_by w g row column
 unfolding band_bytes actual_rows actual_columns
 same_end true e g row column = refl
 same_end false e g row column = refl
 
-pub rule_moves_no_block : RuleMovesNoBlock
+pub rule_moves_no-block : RuleMovesNoBlock
 unfolding grid_number block_end band_bytes whole_start whole_length q1 q3 q4
-rule_moves_no_block e g row column =
+rule_moves_no-block e g row column =
     record {
       number = refl;
       image = refl;

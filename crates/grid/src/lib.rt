@@ -1,4 +1,5 @@
 // The grid of a picture: MIL-STD-2500C's fields, their limits, sizes, and where a sample lies.
+#![tactic(auto)]
 ghost use Rattle.std.specs.Prelude.{◌≡◌};
 
 mod check;
@@ -9,7 +10,7 @@ mod widths;
 use layout::InterleaveMode;
 
 // How the runs of an edge block lie where NBPP is no multiple of 8. Byte multiples lie the same under both rules.
-#[derive(Drop)]
+#[derive(Clone, Copy)]
 pub enum EdgeRule {
     // Its actual rows and columns, without gaps.
     Tight,
@@ -18,7 +19,7 @@ pub enum EdgeRule {
 }
 
 // What a call is told of a picture.
-#[derive(Drop)]
+#[derive(Clone, Copy)]
 pub struct Grid {
     // Rows and columns of the picture.
     pub nrows: u32,

@@ -9,7 +9,7 @@ use common::pick;
 use layout::{BlockLayout, bands_apart};
 
 // A part of the image, in bytes.
-#[derive(Drop)]
+#[derive(Clone, Copy)]
 pub struct Span {
     pub start: usize,
     pub length: usize,

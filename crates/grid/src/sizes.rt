@@ -88,7 +88,7 @@ impl Grid {
     // Rows of a block that are inside the picture.
     pub fn actual_rows(self, row: usize) -> usize
         requires accepted { Accepted self }
-        requires row_lt_nbpc { row < self.nbpc }
+        requires row_in_grid { row < self.nbpc }
         ensures { result ≡ actual_rows self row }
     {
         part_length(self.nrows, self.nppbv, row)
@@ -97,7 +97,7 @@ impl Grid {
     // Columns of a block that are inside the picture.
     pub fn actual_columns(self, column: usize) -> usize
         requires accepted { Accepted self }
-        requires column_lt_nbpr { column < self.nbpr }
+        requires column_in_grid { column < self.nbpr }
         ensures { result ≡ actual_columns self column }
     {
         part_length(self.ncols, self.nppbh, column)

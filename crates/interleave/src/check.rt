@@ -8,7 +8,7 @@ use grid::Grid;
 use layout::bands::{band_count, bands_below};
 
 // The sides of a block, its bands, and the bytes of a sample.
-#[derive(Drop)]
+#[derive(Clone, Copy)]
 pub struct Counts {
     pub rows: u32,
     pub columns: u32,

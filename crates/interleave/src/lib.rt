@@ -1,4 +1,5 @@
 // Reorderings of a block's samples between the orders of the interleave modes. Samples stay big-endian.
+#![tactic(auto)]
 ghost use Rattle.std.specs.Prelude.{◌≡◌};
 ghost use Rattle.layout.specs.declared.InterleaveMode.TheVariants.{P, S};
 ghost use Rattle.layout.specs.Bands.{bands_of};
@@ -15,7 +16,7 @@ use crate::planes::{from_planes, to_planes};
 
 // What a reordering answers: the number, the bands of the output and its bytes; zeros beside a refusal.
 #[repr(C)]
-#[derive(Drop)]
+#[derive(Clone, Copy)]
 pub struct Reordered {
     pub number: u32,
     pub bands: usize,

@@ -11,7 +11,7 @@ use borrow.Author.Tests.{eqb-true}
 use Rattle.common.proofs.Arith.{two_digits, prod_le}
 use Rattle.layout.proofs.Order.{Same3, ordinal_lt, ordinal_inj, ordinal_mono}
 use Rattle.layout.specs.declared.BlockLayout.{BlockLayout}
-use Rattle.layout.specs.Internal.Layout.{sample_bytes, byte_multiple, run_size, ordinal_in, bit_of, place, end_by_lem, block_end, SampleSize, Sample, Sound}
+use Rattle.layout.specs.Internal.Layout.{sample_bytes, byte_multiple, run_size, ordinal_in, bit_of, place, end_by, block_end, SampleSize, Sample, Sound}
 
 pub sample-size : (l : BlockLayout) → Sound l → SampleSize l.nbpp (sample_bytes l)
 sample-size l f = f.size
@@ -69,7 +69,7 @@ bit_mono l room pos n m h = go (dec_lt (n / run_size l) (m / run_size l))
             absurd (omega (arith, div-add-mod' n (run_size l), div-add-mod' m (run_size l), below-runs (m / run_size l) (n / run_size l) (run_size l) j, mod-lt m pos))
         same (no j) = omega arith
 
-ends_by : (w : Bool) (l : BlockLayout) → byte_multiple l ≡ w → Sound l → (b r c : ℕ) → Sample l b r c → place l b r c + l.nbpp ≤ 8 * end_by_lem w l
+ends_by : (w : Bool) (l : BlockLayout) → byte_multiple l ≡ w → Sound l → (b r c : ℕ) → Sample l b r c → place l b r c + l.nbpp ≤ 8 * end_by w l
 unfolding place
 ends_by true l e f b r c t =
     let s = run_place l f b r c t in
@@ -173,7 +173,7 @@ pub last-sample : (l : BlockLayout) → Sound l → Sample l (l.bands - 1) (l.ro
 last-sample l f = record { in_b = omega (arith, f.some-bands); in_r = omega (arith, f.some-rows); in_c = omega (arith, f.some-columns) }
 
 -- the end is that of the last run, or before it
-end_by_lem : (w : Bool) (l : BlockLayout) → byte_multiple l ≡ w → Sound l → end_by_lem w l ≤ l.first + (l.bands - 1) * l.apart + l.run_bytes
+end_by_lem : (w : Bool) (l : BlockLayout) → byte_multiple l ≡ w → Sound l → end_by w l ≤ l.first + (l.bands - 1) * l.apart + l.run_bytes
 unfolding place
 end_by_lem true l e f =
     let w : l.nbpp % 8 ≡ 0 = eqb-true (l.nbpp % 8) 0 e in

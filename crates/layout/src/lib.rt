@@ -1,5 +1,6 @@
 // A block's layout as a value: where each sample of a block lies in some bytes, whatever picture or file these bytes
 // are of.
+#![tactic(auto)]
 ghost use Rattle.std.specs.Prelude.{◌≡◌, ◌+◌, ◌*◌, ◌<◌, ◌≤◌, ◌^◌};
 ghost use Rattle.layout.specs.Order.{bands_apart};
 ghost use Rattle.layout.specs.Internal.Layout.{sample_bytes, byte_multiple, ordinal_in, run_size};
@@ -9,7 +10,7 @@ ghost use Rattle.layout.specs.Internal.Spacing.{has_strides, strides_of, column_
 pub mod bands;
 
 // IMODE: how the bands of a picture are interleaved.
-#[derive(Drop)]
+#[derive(Clone, Copy)]
 pub enum InterleaveMode {
     // Band interleaved by block.
     B,
@@ -34,7 +35,7 @@ pub fn bands_apart(mode: InterleaveMode) -> bool
 }
 
 // The samples of a block stand in the order of the mode and are cut into as many runs as bands.
-#[derive(Drop)]
+#[derive(Clone, Copy)]
 pub struct BlockLayout {
     // The byte of run 0, the bytes from a run to the next, and the bytes of a run.
     pub first: usize,
@@ -53,7 +54,7 @@ pub struct BlockLayout {
 }
 
 // Bits from a band, a row and a column to the next.
-#[derive(Drop)]
+#[derive(Clone, Copy)]
 pub struct Strides {
     pub band: usize,
     pub row: usize,
@@ -86,8 +87,8 @@ impl BlockLayout {
 
     // How many samples stand before sample (b, r, c) in the order of the mode.
     fn sample_ordinal(self, b: usize, r: usize, c: usize) -> usize
-        requires b_lt_bands { (b < self.bands) × (r < self.run_rows) × (c < self.run_columns) }
-        requires self_bound { self.bands * run_size self < 2 ^ 64 }
+        requires in_runs { (b < self.bands) × (r < self.run_rows) × (c < self.run_columns) }
+        requires size_fits { self.bands * run_size self < 2 ^ 64 }
         ensures { result ≡ ordinal_in self b r c }
     {
         let bands = self.bands as usize;

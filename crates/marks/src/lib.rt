@@ -1,9 +1,10 @@
 // Marks of blocks in lent 64-bit words.
+#![tactic(auto)]
 ghost use Rattle.std.specs.Prelude.{◌≡◌, ◌+◌, ◌*◌, ◌/◌, ◌<◌, ◌≤◌, ◌^◌, length};
 ghost use Rattle.marks.specs.Marks.{mark_words, q12, marked, mark, count, first_not, AllMarked};
 
 // The first unmarked block, by rows, then columns.
-#[derive(Drop)]
+#[derive(Clone, Copy)]
 pub enum FirstUnmarked {
     None,
     Block { row: usize, column: usize },

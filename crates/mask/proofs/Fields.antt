@@ -22,6 +22,6 @@ pub code_lt : (xs : List ℕ) (s : ℕ) {r : ℕ} → Bytes xs → s ≤ 4 → r
 code_lt xs s b h e = lt_of_lt_of_le (read_lt xs 10 s b e) (pow_mono {i = 8 * s} {j = 32} (omega arith))
 
 -- the records' bytes, for record lengths of 16 bits each
-pub record_bytes_le : (g : Grid) (r b p : ℕ) → Accepted g → r ≡ records g → b ≤ 65_535 → p ≤ 65_535
+pub record_bytes-le : (g : Grid) (r b p : ℕ) → Accepted g → r ≡ records g → b ≤ 65_535 → p ≤ 65_535
     → r * (b + p) ≤ 9_997_900_119_999 * 131_070
-record_bytes_le g r b p a e hb hp = prod_le r (b + p) 9_997_900_119_999 131_070 (rw e (records-le g a)) (omega arith)
+record_bytes-le g r b p a e hb hp = prod_le r (b + p) 9_997_900_119_999 131_070 (rw e (records-le g a)) (omega arith)

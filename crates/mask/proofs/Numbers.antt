@@ -132,10 +132,10 @@ pub record MaskWrite (g : Grid) (mask : ImageDataMask) (n m l : ℕ) : Type 0 wh
   pub pad-list : m ≡ entries g mask.pad_pixel_mask_record_length
   pub room : mask_size g mask ≤ l
 
-pub mask_write_facts : (g : Grid) (mask : ImageDataMask) (n m l : ℕ) → mask_write_number g mask n m l ≡ 0
+pub mask_write-facts : (g : Grid) (mask : ImageDataMask) (n m l : ℕ) → mask_write_number g mask n m l ≡ 0
     → MaskWrite g mask n m l
 unfolding mask_write_number
-mask_write_facts g mask n m l e =
+mask_write-facts g mask n m l e =
     let s = grid-inv g _ e in
     let a = ask-inv 17 (q17 mask) _ (lit< tt) s.1 in
     let b = ask-inv 18 (q18 mask) _ (lit< tt) a.1 in
@@ -155,10 +155,10 @@ mask_write_facts g mask n m l e =
       room = leb-true _ _ r.0;
     }
 
-pub mask_write_yes : (g : Grid) (mask : ImageDataMask) (n m l : ℕ) → MaskWrite g mask n m l
+pub mask_write-yes : (g : Grid) (mask : ImageDataMask) (n m l : ℕ) → MaskWrite g mask n m l
     → mask_write_number g mask n m l ≡ 0
 unfolding mask_write_number every
-mask_write_yes g mask n m l w =
+mask_write-yes g mask n m l w =
     grid-yes g _ w.accepted
     ∙ rw (
       w.record_lengths,

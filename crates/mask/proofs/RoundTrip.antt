@@ -33,8 +33,8 @@ use Rattle.mask.specs.Mask.{entries, parse_number, parse, mask_write_number, mar
 use Rattle.mask.specs.RoundTrip.{own_records, own_block_records, own_pad_records, ParsedComesBack, written_mask, WrittenComesBack}
 use Rattle.mask.proofs.Tabulate.{length-tabulate, get_d_tabulate}
 use Rattle.mask.proofs.Records.{lookup_lt}
-use Rattle.mask.proofs.Numbers.{Parse, parse-facts, parse-yes, lookup-yes, MaskWrite, mask_write_facts}
-use Rattle.mask.proofs.Numbers.{mask_write_yes, block-length, pad-length}
+use Rattle.mask.proofs.Numbers.{Parse, parse-facts, parse-yes, lookup-yes, MaskWrite, mask_write-facts}
+use Rattle.mask.proofs.Numbers.{mask_write-yes, block-length, pad-length}
 use Rattle.mask.proofs.TableWrites.{size-entries, size_is}
 
 -- ---- read, then written
@@ -99,7 +99,7 @@ own-accepted : (g : Grid) (table : List ℕ) (l : ℕ) → Bytes table → parse
 own-accepted g table l b z o room =
     let t = parse-facts g table z in
     let size : be_at table 0 4 < 2 ^ (8 * 4) = be_at_lt table 0 4 b in
-    mask_write_yes g (header table) _ _ l record {
+    mask_write-yes g (header table) _ _ l record {
       accepted = t.accepted;
       record_lengths = t.record_lengths;
       code-length = t.code-length;
@@ -210,7 +210,7 @@ module _ (g : Grid) (mask : ImageDataMask) (blockOffsets padOffsets rest : List 
     lists = offset_bytes blockOffsets ++ (offset_bytes padOffsets ++ rest)
 
     facts : MaskWrite g mask (length blockOffsets) (length padOffsets) l
-    facts = mask_write_facts g mask (length blockOffsets) (length padOffsets) l zero
+    facts = mask_write-facts g mask (length blockOffsets) (length padOffsets) l zero
 
     table_is : table ≡ headed (written_mask g mask) lists
     unfolding table_bytes

@@ -19,7 +19,7 @@ use Rattle.grid.specs.declared.Grid.{Grid}
 use Rattle.mask.specs.declared.ImageDataMask.{ImageDataMask}
 use Rattle.mask.specs.Table.{records, code_bytes, table_size, mask_size, length_bytes, offset_bytes, table_bytes}
 use Rattle.mask.specs.Mask.{q17, entries, mask_write_number, written_with, to_bytes}
-use Rattle.mask.proofs.Numbers.{MaskWrite, mask_write_facts, block-length, pad-length}
+use Rattle.mask.proofs.Numbers.{MaskWrite, mask_write-facts, block-length, pad-length}
 
 -- ---- sizes
 
@@ -89,7 +89,7 @@ pub table-put : (g : Grid) (mask : ImageDataMask) (blockOffsets padOffsets d : L
     → written_with (record { number = 0; bytes = size }) o₄ ≡ to_bytes g mask blockOffsets padOffsets d
 unfolding to_bytes outcome table_bytes
 table-put g mask blockOffsets padOffsets d {code = code} {o₁ = o₁} z s c e₁ e₂ e₃ e₄ =
-    let w = mask_write_facts g mask (length blockOffsets) (length padOffsets) (length d) z in
+    let w = mask_write-facts g mask (length blockOffsets) (length padOffsets) (length d) z in
     let room : 10 + code + length blockOffsets * 4 + length padOffsets * 4 ≤ length d =
     omega (arith, table-room g mask _ _ _ w) in
     let ten : length (length_bytes (mask_size g mask) mask) ≡ 10 = simp (length-append, length-be_bytes) in

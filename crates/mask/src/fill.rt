@@ -24,7 +24,7 @@ fn filled_block(grid: Grid, k: usize) -> usize
 // Fills one word a record: 0 for a marked block, all ones for another.
 fn fill_records(marks: &[u64], grid: Grid, out: &mut [u32])
     requires accepted { Accepted grid }
-    requires grid_bound { (blocks grid ≤ 64 * length marks.now) × (records grid ≤ length out.old) }
+    requires buffers_hold { (blocks grid ≤ 64 * length marks.now) × (records grid ≤ length out.old) }
     ensures { out.new ≡ over out.old 0 (mark_records grid marks.now) }
 {
     for k in 0..record_count(grid) {

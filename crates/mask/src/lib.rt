@@ -1,4 +1,5 @@
 // The image data mask table: which blocks of a picture are stored, and where.
+#![tactic(auto)]
 ghost use Rattle.std.specs.Prelude.{◌≡◌};
 ghost use Rattle.grid.specs.Check.{Accepted};
 ghost use Rattle.mask.specs.Table.{records, code_bytes};
@@ -14,7 +15,7 @@ mod write;
 
 // A table's header and pad code. The records stay in the table.
 #[repr(C)]
-#[derive(Drop)]
+#[derive(Clone, Copy)]
 pub struct ImageDataMask {
     // IMDATOFF: where the image data starts, from the table's first byte on.
     pub image_data_offset: u32,
@@ -31,7 +32,7 @@ pub struct ImageDataMask {
 // What parse answers: the number, the header, and the bytes that the table takes. The mask from marks answers the words
 // that it filled.
 #[repr(C)]
-#[derive(Drop)]
+#[derive(Clone, Copy)]
 pub struct Parsed {
     pub number: u32,
     pub mask: ImageDataMask,
@@ -40,7 +41,7 @@ pub struct Parsed {
 
 // What `has_block` answers.
 #[repr(C)]
-#[derive(Drop)]
+#[derive(Clone, Copy)]
 pub struct Present {
     pub number: u32,
     pub present: bool,
@@ -48,7 +49,7 @@ pub struct Present {
 
 // What `get_block_offset` answers: `given` where the block is present and the table has block records.
 #[repr(C)]
-#[derive(Drop)]
+#[derive(Clone, Copy)]
 pub struct BlockOffset {
     pub number: u32,
     pub given: bool,
@@ -57,7 +58,7 @@ pub struct BlockOffset {
 
 // What `to_bytes` answers: the number, and the bytes written.
 #[repr(C)]
-#[derive(Drop)]
+#[derive(Clone, Copy)]
 pub struct Written {
     pub number: u32,
     pub bytes: usize,

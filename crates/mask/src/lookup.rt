@@ -43,8 +43,8 @@ impl ImageDataMask {
 
     // The offset that a table has for a band of a block.
     fn record_of(table: &[u8], grid: Grid, block_row: u32, block_col: u32, band: u32) -> u32
-        requires band_value { lookup_number grid table.now block_row block_col band ≡ 0 }
-        requires fact { be_at table.now 4 2 ≡ 0 → ⊥ }
+        requires no_refusal { lookup_number grid table.now block_row block_col band ≡ 0 }
+        requires has_records { be_at table.now 4 2 ≡ 0 → ⊥ }
         ensures { result ≡ record_of grid table.now block_row block_col band }
     {
         let record = lookup_record(grid, block_row, block_col, band);

@@ -13,7 +13,7 @@ use lib.ListN.{length, get_or}
 use lib.Seq.{ext_get_or}
 use Rattle.bits.specs.Bits.{be_bytes}
 use Rattle.common.specs.Over.{over}
-use Rattle.common.proofs.Over.{length_over, get_or_over_in, get_or-over-before, get_or-over-after}
+use Rattle.common.proofs.Over.{length_over, get_or-over_in, get_or-over-before, get_or-over-after}
 use Rattle.layout.specs.Bands.{Bands, band_count, band_at}
 use Rattle.common.proofs.Arith.{two_digits, three_digits}
 use Rattle.common.proofs.Tests.{true_false, pick_yes, pick_no}
@@ -71,7 +71,7 @@ module _ (l : BlockLayout) (src : List ℕ) (p : Part) (bs : Bands) (rows column
           ap (λ (q : ℕ). get_or (over xs to (values w (sample_bytes l) n)) q 0)
           (let q : answer_number p rows columns (k x) (i x) (j x) * sample_bytes l + y ≡ to + (x * sample_bytes l + y)
           = omega (arith, starts x h) in q)
-          ∙ get_or_over_in xs to (values w (sample_bytes l) n) (x * sample_bytes l + y) 0 room
+          ∙ get_or-over_in xs to (values w (sample_bytes l) n) (x * sample_bytes l + y) 0 room
           (omega (arith, length-values w (sample_bytes l) n, digits_lt {q = x} {m = n} h m))
           ∙ get_or-values w (sample_bytes l) n x y h m
           ∙ ap (λ (z : ℕ). get_or (be_bytes (sample_bytes l) z) y 0) (right x h)

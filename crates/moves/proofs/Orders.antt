@@ -117,14 +117,14 @@ area_first o =
 
 -- the area after an area, as its two cases have it
 module _ (o : Order) (a : Area) {c : Span} (ec : c ≡ next_part o.columns a.columns) where
-  pub columns_go_on : 0 < c.from → record { rows = a.rows; columns = c } ≡ next_area o a
-  columns_go_on h =
+  pub columns-go_on : 0 < c.from → record { rows = a.rows; columns = c } ≡ next_area o a
+  columns-go_on h =
       let r : Span = next_part o.rows a.rows in
       sym (pick_yes _ _ (lt-ltb 0 c.from h)) ∙ ap (λ (s : Span). advanced s r a) ec
 
-  pub rows_go_on : {r : Span} → r ≡ next_part o.rows a.rows → c.from ≤ 0
+  pub rows-go_on : {r : Span} → r ≡ next_part o.rows a.rows → c.from ≤ 0
       → record { rows = r; columns = c } ≡ next_area o a
-  rows_go_on {r} er first = sym (pick_no _ _ (le-ltb 0 c.from first)) ∙ (λ i. advanced (ec i) (er i) a)
+  rows-go_on {r} er first = sym (pick_no _ _ (le-ltb 0 c.from first)) ∙ (λ i. advanced (ec i) (er i) a)
 
 -- what follows area a, by how far its columns go
 module _ (o : Order) (q : RightCuts o) (a : ℕ) (h : a + 1 < area_count o) where
@@ -340,9 +340,9 @@ module _ (t : Target) {q : Area} where
   bands-done k e x = puts_less t x (λ b r c a h. (h, omega (arith, e, a.in_b)))
 
   -- all of them at once
-  pub bands_at_once : (n : ℕ) {xs ys : List ℕ} → n ≡ t.bands → Puts t (InPiece (bands_of_area q n)) xs ys
+  pub bands-at_once : (n : ℕ) {xs ys : List ℕ} → n ≡ t.bands → Puts t (InPiece (bands_of_area q n)) xs ys
       → Puts t (InArea q) xs ys
-  bands_at_once n e x =
+  bands-at_once n e x =
       puts_less t x (λ b r c a h.
       record {
         in_b = record { low = omega arith; high = omega (arith, e, a.in_b) };

@@ -15,7 +15,7 @@ use Rattle.common.specs.Tests.{pick}
 use Rattle.layout.specs.Bands.{Bands, bands_of, band_count, band_at}
 use Rattle.bits.specs.Values.{values}
 use Rattle.samples.specs.Internal.Samples.{spaced}
-use Rattle.rows.specs.Internal.Rows.{row_read_lem, pixel_read}
+use Rattle.rows.specs.Internal.Rows.{row_read, pixel_read}
 use Rattle.layout.specs.declared.BlockLayout.{BlockLayout}
 use Rattle.layout.specs.Internal.Layout.{sample_bytes}
 use Rattle.layout.specs.Internal.Spacing.{has_strides, band_stride}
@@ -123,7 +123,7 @@ module _ {l : BlockLayout} (src : List ℕ) {p : Part} {bs : Bands} {rows column
     pub rows-read : (b : ℕ) {at : ℕ} {out after : List ℕ} → length out ≡ m → q.bands.count ≡ 1
         → b ≡ band_at bs q.bands.from → at ≡ first_at im b q
         → after ≡ iter q.rows.count
-        (row_read_lem src at im.row im.column l.nbpp pl.column q.columns.count to pl.row) out
+        (row_read src at im.row im.column l.nbpp pl.column q.columns.count to pl.row) out
         → Puts (answer_target l src p bs rows columns) (InPiece q) out after
     unfolding spaced
     rows-read b {at} {out} eo one eb ea e =

@@ -22,7 +22,7 @@ const LISTED_AT_ONCE: usize = 8;
 pub const STORED_AT_ONCE: usize = 10;
 
 // How the samples of a piece are moved.
-#[derive(Drop)]
+#[derive(Clone, Copy)]
 pub enum Way {
     // Rows of one band, in which samples stand evenly.
     Rows,
@@ -33,7 +33,7 @@ pub enum Way {
 }
 
 // A length cut into parts of at most `most`.
-#[derive(Drop)]
+#[derive(Clone, Copy)]
 pub struct Cut {
     pub length: usize,
     pub most: usize,
@@ -41,21 +41,21 @@ pub struct Cut {
 }
 
 // `count` numbers from `from` on.
-#[derive(Drop)]
+#[derive(Clone, Copy)]
 pub struct Span {
     pub from: usize,
     pub count: usize,
 }
 
 // Some rows and columns of a part.
-#[derive(Drop)]
+#[derive(Clone, Copy)]
 pub struct Area {
     pub rows: Span,
     pub columns: Span,
 }
 
 // Some bands, rows and columns of a part; bands are counted as they are asked for.
-#[derive(Drop)]
+#[derive(Clone, Copy)]
 pub struct Piece {
     pub bands: Span,
     pub rows: Span,
@@ -63,7 +63,7 @@ pub struct Piece {
 }
 
 // All bands, rows and columns of a part, in pieces: area after area, rows outermost, and in each the bands.
-#[derive(Drop)]
+#[derive(Clone, Copy)]
 pub struct Order {
     pub way: Way,
     pub bands: Cut,
@@ -257,7 +257,7 @@ pub fn choose(
     columns: usize,
 ) -> Order
     requires sound { Sound layout }
-    requires bands_nonzero { (0 < bands) × (0 < rows) × (0 < columns) }
+    requires not_empty { (0 < bands) × (0 < rows) × (0 < columns) }
     ensures { Chosen layout together bands rows columns result }
 {
     let width = layout.nbpp as usize;

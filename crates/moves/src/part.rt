@@ -19,7 +19,7 @@ use rows::read_rows;
 
 // `rows` rows of `columns` samples of a block, from its sample (r, c) on, and the row and column of the answer that
 // they go to.
-#[derive(Drop)]
+#[derive(Clone, Copy)]
 pub struct Part {
     pub r: usize,
     pub c: usize,
@@ -55,12 +55,12 @@ fn read_band(
     k: usize,
     out: &mut [u8],
 )
-    requires sides_value { sides ≡ sides_of layout sides.part sides.rows sides.columns }
+    requires own_sides { sides ≡ sides_of layout sides.part sides.rows sides.columns }
     requires readable { Readable layout (length src.now) sides.part (bands_of all bands.now) sides.rows
         sides.columns (length out.old) }
     requires piece_in { PieceIn (band_count layout.bands (bands_of all bands.now)) sides.part.rows
         sides.part.columns (band_of area k) }
-    requires layout_value { has_strides layout ≡ true }
+    requires even { has_strides layout ≡ true }
     ensures { SomeRead layout src.now sides.part (bands_of all bands.now)
         sides.rows sides.columns (InPiece (band_of area k)) out.old out.new }
 {
@@ -96,11 +96,11 @@ fn read_bands(
     area: Area,
     out: &mut [u8],
 )
-    requires sides_value { sides ≡ sides_of layout sides.part sides.rows sides.columns }
+    requires own_sides { sides ≡ sides_of layout sides.part sides.rows sides.columns }
     requires readable { Readable layout (length src.now) sides.part (bands_of all bands.now) sides.rows
         sides.columns (length out.old) }
     requires area_in { AreaIn sides.part.rows sides.part.columns area }
-    requires layout_value { has_strides layout ≡ true }
+    requires even { has_strides layout ≡ true }
     ensures { SomeRead layout src.now sides.part (bands_of all bands.now)
         sides.rows sides.columns (InArea area) out.old out.new }
 {
@@ -118,7 +118,7 @@ fn read_pixels(
     area: Area,
     out: &mut [u8],
 )
-    requires sides_value { sides ≡ sides_of layout sides.part sides.rows sides.columns }
+    requires own_sides { sides ≡ sides_of layout sides.part sides.rows sides.columns }
     requires readable { Readable layout (length src.now) sides.part (bands_of false bands.now) sides.rows
         sides.columns (length out.old) }
     requires piece_in { PieceIn (band_count layout.bands (bands_of false bands.now)) sides.part.rows
@@ -158,12 +158,12 @@ fn read_line(
     k: usize,
     out: &mut [u8],
 )
-    requires sides_value { sides ≡ sides_of layout sides.part sides.rows sides.columns }
+    requires own_sides { sides ≡ sides_of layout sides.part sides.rows sides.columns }
     requires readable { Readable layout (length src.now) sides.part (bands_of all bands.now) sides.rows
         sides.columns (length out.old) }
     requires piece_in { PieceIn (band_count layout.bands (bands_of all bands.now)) sides.part.rows
         sides.part.columns (band_of area k) }
-    requires count_value { area.rows.count ≡ 1 }
+    requires one_row { area.rows.count ≡ 1 }
     ensures { SomeRead layout src.now sides.part (bands_of all bands.now)
         sides.rows sides.columns (InPiece (band_of area k)) out.old out.new }
 {
@@ -188,11 +188,11 @@ fn read_lines(
     area: Area,
     out: &mut [u8],
 )
-    requires sides_value { sides ≡ sides_of layout sides.part sides.rows sides.columns }
+    requires own_sides { sides ≡ sides_of layout sides.part sides.rows sides.columns }
     requires readable { Readable layout (length src.now) sides.part (bands_of all bands.now) sides.rows
         sides.columns (length out.old) }
     requires area_in { AreaIn sides.part.rows sides.part.columns area }
-    requires count_value { area.rows.count ≡ 1 }
+    requires one_row { area.rows.count ≡ 1 }
     ensures { SomeRead layout src.now sides.part (bands_of all bands.now)
         sides.rows sides.columns (InArea area) out.old out.new }
 {
@@ -212,7 +212,7 @@ fn read_area(
     area: Area,
     out: &mut [u8],
 )
-    requires sides_value { sides ≡ sides_of layout sides.part sides.rows sides.columns }
+    requires own_sides { sides ≡ sides_of layout sides.part sides.rows sides.columns }
     requires readable { Readable layout (length src.now) sides.part (bands_of all bands.now) sides.rows
         sides.columns (length out.old) }
     requires area_moves { AreaMoves layout (band_count layout.bands (bands_of all bands.now)) sides.part.rows

@@ -12,7 +12,7 @@ use samples::read::read_samples;
 use samples::write::write_samples;
 
 // Samples of a row that stand evenly: the first bit of the first, and how many they are.
-#[derive(Drop)]
+#[derive(Clone, Copy)]
 pub struct Run {
     pub at: usize,
     pub count: usize,
@@ -22,7 +22,7 @@ pub struct Run {
 fn run_from(layout: BlockLayout, b: usize, r: usize, c: usize, most: usize) -> Run
     requires sound { Sound layout }
     requires sample { Sample layout b r c }
-    requires most_nonzero { (0 < most) × (c + most ≤ layout.columns) }
+    requires in_row { (0 < most) × (c + most ≤ layout.columns) }
     ensures { RowRun layout b r c most result }
 {
     let at = layout.sample_place(b, r, c);
@@ -45,8 +45,8 @@ pub fn read_row(
 )
     requires sound { Sound layout }
     requires sample { Sample layout b r c }
-    requires count_bound { (c + count ≤ layout.columns) × (block_end layout ≤ length src.now) }
-    requires layout_in_bounds { to + count * sample_bytes layout ≤ length out.old }
+    requires in_row { (c + count ≤ layout.columns) × (block_end layout ≤ length src.now) }
+    requires out_holds { to + count * sample_bytes layout ≤ length out.old }
     ensures { out.new ≡ samples_read layout src.now b r c count to out.old }
 {
     let width = layout.nbpp as usize;
@@ -83,7 +83,7 @@ pub fn put_row(
 )
     requires writable { Writable layout dat.now image.old }
     requires sample { Sample layout b r c }
-    requires count_bound { (c + count ≤ layout.columns) × (from ≡ data_index layout b r c) }
+    requires in_row { (c + count ≤ layout.columns) × (from ≡ data_index layout b r c) }
     ensures { SomePut layout dat.now (InRow b r c count) image.old image.new }
 {
     let width = layout.nbpp as usize;

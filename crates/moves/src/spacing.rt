@@ -8,7 +8,7 @@ use layout::BlockLayout;
 
 // The place of the first sample, and how far it is from a band, a row and a column to the next: bits of an image, or
 // bytes of planes.
-#[derive(Drop)]
+#[derive(Clone, Copy)]
 pub struct Spacing {
     pub first: usize,
     pub band: usize,
@@ -29,7 +29,7 @@ impl Spacing {
 // A part, how many rows and columns a plane has, and where the part's samples lie on both sides: in the image in
 // bits, which holds where the layout has
 // strides, and in planes in bytes.
-#[derive(Drop)]
+#[derive(Clone, Copy)]
 pub struct Sides {
     pub part: Part,
     pub rows: usize,

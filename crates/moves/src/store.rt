@@ -18,7 +18,7 @@ use rows::write_rows;
 // Clears the bytes of each run of a block.
 fn clear_runs(image: &mut [u8], layout: BlockLayout)
     requires sound { Sound layout }
-    requires run_bytes_in_bounds { layout.first + (layout.bands - 1) * layout.apart + layout.run_bytes ≤ length image.old }
+    requires image_holds { layout.first + (layout.bands - 1) * layout.apart + layout.run_bytes ≤ length image.old }
     ensures { image.new ≡ clear_runs layout image.old }
 {
     let bands = layout.bands as usize;
@@ -39,7 +39,7 @@ fn store_piece(
     piece: Piece,
     dat: &[u8],
 )
-    requires sides_value { sides ≡ sides_of layout (whole_part layout.rows layout.columns) layout.rows
+    requires own_sides { sides ≡ sides_of layout (whole_part layout.rows layout.columns) layout.rows
         layout.columns }
     requires writable { Writable layout dat.now image.old }
     requires piece_in { PieceIn layout.bands layout.rows layout.columns piece }
@@ -98,7 +98,7 @@ fn store_area(
     area: Area,
     dat: &[u8],
 )
-    requires sides_value { sides ≡ sides_of layout (whole_part layout.rows layout.columns) layout.rows
+    requires own_sides { sides ≡ sides_of layout (whole_part layout.rows layout.columns) layout.rows
         layout.columns }
     requires writable { Writable layout dat.now image.old }
     requires area_moves { AreaMoves layout layout.bands layout.rows layout.columns order area }

@@ -1,4 +1,5 @@
 // What the programs print: text, numbers, bytes and the answers of reads.
+#![tactic(auto)]
 use calls::Shape;
 
 const OUT: i32 = 1;

@@ -3,7 +3,7 @@ use crate::numbers::{less, most, product, quotient, sum};
 use crate::picture::{Picture, actual_columns, actual_rows};
 
 // A rectangle of the picture, and whether all bands are asked for.
-#[derive(Drop)]
+#[derive(Clone, Copy)]
 pub struct Window {
     pub row: u64,
     pub column: u64,

@@ -1,6 +1,7 @@
 // Runs long random lists of calls against a plain frame of its own, and prints how many calls were accepted and
 // refused.
 // A call that answers otherwise than the plain frame is counted as a difference.
+#![tactic(auto)]
 mod counts;
 mod ends;
 mod lists;

@@ -7,7 +7,7 @@ use layout::InterleaveMode;
 // The fields of the grid; then the blocks across and down, the bytes of a sample, of a band of a block and of the
 // image.
 // The modes B, P, R, S are 0 to 3, the edge rules tight and full 0 and 1.
-#[derive(Drop)]
+#[derive(Clone, Copy)]
 pub struct Picture {
     pub nrows: u64,
     pub ncols: u64,

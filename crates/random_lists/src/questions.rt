@@ -4,7 +4,7 @@ use crate::picture::{Picture, actual_columns, actual_rows};
 use crate::plain::{first, unfit};
 
 // What a write is told: the block, and the shape of its data.
-#[derive(Drop)]
+#[derive(Clone, Copy)]
 pub struct Write {
     pub row: u64,
     pub column: u64,

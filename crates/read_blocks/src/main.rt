@@ -1,6 +1,7 @@
 // Reads every block of a small picture in every mode at eleven widths by a reader, then asks what document 01 makes of
 // listed bands, refusals and short files, and prints the answers: first under the edge rule tight, then under full.
 // tools/expected_blocks.py works out what it must print.
+#![tactic(auto)]
 use grid::{EdgeRule, Grid};
 use layout::InterleaveMode;
 use printing::{print_bytes, print_letter, print_number, print_read, print_text};

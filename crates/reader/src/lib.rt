@@ -2,6 +2,7 @@
 // that it
 // stands over, 1 to 4 about the grid first, so a reader of a refused grid refuses every read. `check` tells the grid's
 // number.
+#![tactic(auto)]
 ghost use Rattle.std.specs.Prelude.{◌≡◌, ◌+◌, length};
 ghost use Rattle.calls.specs.Orders.{rectangle, whole_number};
 ghost use Rattle.grid.specs.Check.{grid_number};
@@ -11,7 +12,7 @@ ghost use Rattle.calls.specs.Reads.{block_read, whole_block, whole_at, window, f
 use calls::Shape;
 use grid::Grid;
 
-#[derive(Drop)]
+#[derive(Clone, Copy)]
 pub struct Reader<'a> {
     image: &'a [u8],
     grid: Grid,
@@ -87,8 +88,8 @@ impl<'a> Reader<'a> {
 
     // The bytes of the whole nominal block: that part of the image itself, and no copy of it.
     pub fn whole_block(self, block_row: u32, block_col: u32) -> &'a [u8]
-        ensures result_value { result.now ≡ whole_block self.entry.grid self.entry.image.now block_row block_col }
-        ensures ref_ptr_value { (result.ref_ptr.0 ≡ self.entry.image.ref_ptr.0)
+        ensures bytes { result.now ≡ whole_block self.entry.grid self.entry.image.now block_row block_col }
+        ensures place { (result.ref_ptr.0 ≡ self.entry.image.ref_ptr.0)
             × (result.ref_ptr.1 ≡ self.entry.image.ref_ptr.1
             + whole_at self.entry.grid (length self.entry.image.now) block_row block_col) }
     {

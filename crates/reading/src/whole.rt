@@ -26,8 +26,8 @@ pub fn whole_number(image: &[u8], grid: Grid, block_row: u32, block_col: u32) ->
 // The bytes of the whole nominal block in B, P and R: that part of the image itself, and no copy of it. A refusal, or
 // mode S, gives an empty part at the image's start.
 pub fn whole_block(image: &[u8], grid: Grid, block_row: u32, block_col: u32) -> &[u8]
-    ensures result_value { result.now ≡ whole_block grid image.now block_row block_col }
-    ensures ref_ptr_value { (result.ref_ptr.0 ≡ image.entry.ref_ptr.0)
+    ensures bytes { result.now ≡ whole_block grid image.now block_row block_col }
+    ensures place { (result.ref_ptr.0 ≡ image.entry.ref_ptr.0)
         × (result.ref_ptr.1 ≡ image.entry.ref_ptr.1 + whole_at grid (length image.now) block_row block_col) }
 {
     if whole_number(image, grid, block_row, block_col) != 0 {

@@ -9,7 +9,7 @@ pub const BEFORE: u8 = 0xA5;
 pub const WORD_BEFORE: u32 = 0xA5A5_A5A5;
 
 // What a call gave: the number, the values, how many values an accepted call of its kind has, and how many bytes.
-#[derive(Drop)]
+#[derive(Clone, Copy)]
 pub struct Given {
     pub number: u32,
     pub count: usize,

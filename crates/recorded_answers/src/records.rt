@@ -4,7 +4,7 @@ use crate::parts::{product, sum, word_at};
 use grid::Grid;
 
 // A counted list in the file: where it begins, how many words or bytes it has, and where it ends.
-#[derive(Drop)]
+#[derive(Clone, Copy)]
 pub struct List {
     pub at: usize,
     pub count: usize,
@@ -12,7 +12,7 @@ pub struct List {
 }
 
 // The first five arguments, of which a call takes as many as it has.
-#[derive(Drop)]
+#[derive(Clone, Copy)]
 pub struct Arguments {
     pub a: u32,
     pub b: u32,
@@ -21,7 +21,7 @@ pub struct Arguments {
     pub e: u32,
 }
 
-#[derive(Drop)]
+#[derive(Clone, Copy)]
 pub struct Record {
     pub kind: u32,
     // Is IMODE B, P, R or S?

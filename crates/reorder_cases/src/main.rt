@@ -1,6 +1,7 @@
 // Reorders a picture of 2 rows, 2 columns and three bands in every mode, at samples of 1 to 8 bytes.
 // The orders are those of the module comment of the original's interleave.rs; tools/expected_reorderings.py has them
 // too.
+#![tactic(auto)]
 use interleave::Reordered;
 use layout::InterleaveMode;
 use printing::{print_bytes, print_letter, print_number, print_text};

@@ -1,4 +1,5 @@
 // Several rows, or several bands of pixels, moved at once.
+#![tactic(auto)]
 ghost use Rattle.std.specs.Prelude.{◌≡◌, ℕ, ◌+◌, ◌*◌, ◌≤◌, ◌<◌, length};
 ghost use Rattle.samples.specs.Internal.Samples.{SamplesFit};
 ghost use Rattle.rows.specs.Internal.Rows.{Movable, rows_read, rows_written};
@@ -25,9 +26,9 @@ pub fn read_rows(
     line: usize,
     rows: usize,
 )
-    requires width_bound { (width ≤ 8 * size) × (size ≤ 8) × ((width < 8 * size → width ≤ 57)) }
-    requires by_index { (i : ℕ) → i < rows → Movable (length src.now) (at + i * row) step width size count }
-    requires rows_nonzero { (0 < rows) × (to + rows * line + count * size ≤ length out.old + line) }
+    requires width_fits { (width ≤ 8 * size) × (size ≤ 8) × ((width < 8 * size → width ≤ 57)) }
+    requires movable { (i : ℕ) → i < rows → Movable (length src.now) (at + i * row) step width size count }
+    requires out_holds { (0 < rows) × (to + rows * line + count * size ≤ length out.old + line) }
     ensures { out.new ≡ rows_read src.now at row step width size count to line rows
         out.old }
 {
@@ -81,9 +82,9 @@ pub fn write_rows(
     count: usize,
     rows: usize,
 )
-    requires width_bound { (width ≤ 8 * size) × (size ≤ 8) }
-    requires by_index { (i : ℕ) → i < rows → Movable (length img.old) (at + i * row) step width size count }
-    requires rows_nonzero { (0 < rows) × (from + rows * line + count * size ≤ length dat.now + line) }
+    requires width_fits { (width ≤ 8 * size) × (size ≤ 8) }
+    requires movable { (i : ℕ) → i < rows → Movable (length img.old) (at + i * row) step width size count }
+    requires data_holds { (0 < rows) × (from + rows * line + count * size ≤ length dat.now + line) }
     requires samples_fit { width < 8 * size → (i : ℕ) → i < rows → SamplesFit dat.now (from + i * line) size width count }
     ensures { img.new ≡ rows_written dat.now from line size width at row step count rows
         img.old }

@@ -18,8 +18,8 @@ pub fn copy_rows(
     line: usize,
     rows: usize,
 )
-    requires rows_nonzero { (0 < rows) × (at + rows * row + count * size ≤ length src.now + row) }
-    requires size_in_bounds { to + rows * line + count * size ≤ length out.old + line }
+    requires src_holds { (0 < rows) × (at + rows * row + count * size ≤ length src.now + row) }
+    requires out_holds { to + rows * line + count * size ≤ length out.old + line }
     ensures { out.new ≡ whole_rows src.now at row size size count to line rows
         out.old }
 {
@@ -43,9 +43,9 @@ fn gather_rows_any(
     line: usize,
     rows: usize,
 )
-    requires size_bound { (size ≤ 8) × (0 < count) }
-    requires size_in_bounds { at + rows * row + count * step + size ≤ length src.now + step + row }
-    requires size_in_bounds_2 { to + rows * line + count * size ≤ length out.old + line }
+    requires size_fits { (size ≤ 8) × (0 < count) }
+    requires src_holds { at + rows * row + count * step + size ≤ length src.now + step + row }
+    requires out_holds { to + rows * line + count * size ≤ length out.old + line }
     ensures { out.new ≡ whole_rows src.now at row step size count to line rows
         out.old }
 {
@@ -67,9 +67,9 @@ pub fn gather_rows(
     line: usize,
     rows: usize,
 )
-    requires size_bound { (size ≤ 8) × (0 < count) }
-    requires size_in_bounds { at + rows * row + count * step + size ≤ length src.now + step + row }
-    requires size_in_bounds_2 { to + rows * line + count * size ≤ length out.old + line }
+    requires size_fits { (size ≤ 8) × (0 < count) }
+    requires src_holds { at + rows * row + count * step + size ≤ length src.now + step + row }
+    requires out_holds { to + rows * line + count * size ≤ length out.old + line }
     ensures { out.new ≡ whole_rows src.now at row step size count to line rows
         out.old }
 {
@@ -96,9 +96,9 @@ pub fn whole_rows(
     line: usize,
     rows: usize,
 )
-    requires size_bound { (size ≤ 8) × (0 < count) × (0 < rows) }
-    requires size_in_bounds { at + rows * row + count * step + size ≤ length src.now + step + row }
-    requires size_in_bounds_2 { to + rows * line + count * size ≤ length out.old + line }
+    requires size_fits { (size ≤ 8) × (0 < count) × (0 < rows) }
+    requires src_holds { at + rows * row + count * step + size ≤ length src.now + step + row }
+    requires out_holds { to + rows * line + count * size ≤ length out.old + line }
     ensures { out.new ≡ whole_rows src.now at row step size count to line rows
         out.old }
 {

@@ -15,7 +15,7 @@ use lib.Arith.{digits_lt}
 use borrow.Author.Tests.{lt-ltb, le-ltb, le-leb, lt-leb}
 use Rattle.bits.specs.Bits.{be_bytes}
 use Rattle.common.specs.Over.{over}
-use Rattle.common.proofs.Over.{length_over, get_or_over_in, get_or-over-before, get_or-over-after}
+use Rattle.common.proofs.Over.{length_over, get_or-over_in, get_or-over-before, get_or-over-after}
 use Rattle.common.specs.Tests.{pick}
 use Rattle.common.proofs.Tests.{true_false, pick_yes, pick_no}
 use Rattle.bits.specs.Values.{values}
@@ -154,7 +154,7 @@ run_is_patch s v w u d a m pos fits right in-u out-u =
         let js : i % s < s = mod-lt i pos in
         let spot : a * s + (q * s + i % s) ≡ i = omega (arith, ap (λ (x : ℕ). x * s) e, add-mul a q s, div-add-mod' i s) in
         ap (λ (x : ℕ). get_or (over d (a * s) (values w s m)) x 0) (sym spot)
-        ∙ get_or_over_in d (a * s) (values w s m) (q * s + i % s) 0 room (omega (arith, L, digits_lt qm js))
+        ∙ get_or-over_in d (a * s) (values w s m) (q * s + i % s) 0 room (omega (arith, L, digits_lt qm js))
         ∙ get_or-values w s m q (i % s) qm js
         ∙ ap (λ (x : ℕ). get_or (be_bytes s x) (i % s) 0) (right q qm ∙ ap v e)
         ∙ sym (patched_hit s v u d i h (in-u (i / s) lo hi))

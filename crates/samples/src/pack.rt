@@ -26,8 +26,8 @@ fn exchange(x: u64, low: usize, width: usize, v: u64) -> u64
 
 // Puts v, a number of `width` bits, into `img` from bit `at` on, by a change of the n bytes from their first byte on.
 fn put_packed(img: &mut [u8], at: usize, width: usize, n: usize, v: u64)
-    requires width_bound { (width + 7 ≤ 8 * n) × (n < 8) × (at / 8 + n ≤ length img.old) }
-    requires v_bound { v < 2 ^ width }
+    requires image_holds { (width + 7 ≤ 8 * n) × (n < 8) × (at / 8 + n ≤ length img.old) }
+    requires value_fits { v < 2 ^ width }
     ensures { img.new ≡ put_bits img.old at width v }
 {
     let i = at / 8;
@@ -47,8 +47,8 @@ fn pack_by_bits(
     width: usize,
     count: usize,
 )
-    requires width_bound { (width ≤ 64) × (size ≤ 8) × (from + count * size ≤ length dat.now) }
-    requires width_bound_2 { (at + count * step + width < 2 ^ 63) × (at + count * step + width ≤ 8 * length img.old + step) }
+    requires data_holds { (width ≤ 64) × (size ≤ 8) × (from + count * size ≤ length dat.now) }
+    requires image_holds { (at + count * step + width < 2 ^ 63) × (at + count * step + width ≤ 8 * length img.old + step) }
     ensures { img.new
         ≡ samples_written dat.now from size width at step count img.old }
 {
@@ -69,8 +69,8 @@ fn pack_by_bytes(
     width: usize,
     count: usize,
 )
-    requires width_bound { (width < 8 * size) × (size < 7) × (from + count * size ≤ length dat.now) }
-    requires step_bound { (at + count * step < 2 ^ 63) × ((at + count * step) / 8 + size < length img.old) }
+    requires data_holds { (width < 8 * size) × (size < 7) × (from + count * size ≤ length dat.now) }
+    requires image_holds { (at + count * step < 2 ^ 63) × ((at + count * step) / 8 + size < length img.old) }
     requires samples_fit { SamplesFit dat.now from size width count }
     ensures { img.new
         ≡ samples_written dat.now from size width at step count img.old }
@@ -93,8 +93,8 @@ fn pack_each(
     width: usize,
     count: usize,
 )
-    requires width_bound { (width < 8 * size) × (size ≤ 8) × (from + count * size ≤ length dat.now) }
-    requires width_bound_2 { (at + count * step + width < 2 ^ 63) × (at + count * step + width ≤ 8 * length img.old + step) }
+    requires data_holds { (width < 8 * size) × (size ≤ 8) × (from + count * size ≤ length dat.now) }
+    requires image_holds { (at + count * step + width < 2 ^ 63) × (at + count * step + width ≤ 8 * length img.old + step) }
     requires samples_fit { SamplesFit dat.now from size width count }
     ensures { img.new
         ≡ samples_written dat.now from size width at step count img.old }
@@ -113,7 +113,7 @@ fn pack_each(
 
 // `group` samples of `width` bits, one after the other, as one number.
 fn join(dat: &[u8], from: usize, size: usize, width: usize, group: usize) -> u64
-    requires size_bound { (size ≤ 8) × (width < 64) × (group * width ≤ 64) × (from + group * size ≤ length dat.now) }
+    requires group_fits { (size ≤ 8) × (width < 64) × (group * width ≤ 64) × (from + group * size ≤ length dat.now) }
     requires samples_fit { SamplesFit dat.now from size width group }
     ensures { result ≡ joined (side_by_side dat.now from size) width group }
 {
@@ -138,8 +138,8 @@ fn pack_groups_any(
     bytes: usize,
     n: usize,
 )
-    requires size_bound { (size ≤ 8) × (width < 64) × (group * width ≡ 8 * bytes) × (bytes ≤ 8) }
-    requires size_in_bounds { (from + n * (group * size) ≤ length dat.now) × (q + n * bytes ≤ length img.old) }
+    requires group_fits { (size ≤ 8) × (width < 64) × (group * width ≡ 8 * bytes) × (bytes ≤ 8) }
+    requires buffers_hold { (from + n * (group * size) ≤ length dat.now) × (q + n * bytes ≤ length img.old) }
     requires samples_fit { SamplesFit dat.now from size width (n * group) }
     ensures { img.new
         ≡ samples_written dat.now from size width (8 * q) width (n * group) img.old }
@@ -162,8 +162,8 @@ fn pack_groups(
     bytes: usize,
     n: usize,
 )
-    requires size_bound { (size ≤ 8) × (width < 64) × (group * width ≡ 8 * bytes) × (bytes ≤ 8) }
-    requires size_in_bounds { (from + n * (group * size) ≤ length dat.now) × (q + n * bytes ≤ length img.old) }
+    requires group_fits { (size ≤ 8) × (width < 64) × (group * width ≡ 8 * bytes) × (bytes ≤ 8) }
+    requires buffers_hold { (from + n * (group * size) ≤ length dat.now) × (q + n * bytes ≤ length img.old) }
     requires samples_fit { SamplesFit dat.now from size width (n * group) }
     ensures { img.new
         ≡ samples_written dat.now from size width (8 * q) width (n * group) img.old }
@@ -220,8 +220,8 @@ fn pack_grouped(
     width: usize,
     count: usize,
 )
-    requires width_bound { (width < 8 * size) × (size ≤ 8) × (from + count * size ≤ length dat.now) }
-    requires width_bound_2 { (at + count * width + width < 2 ^ 63) × (at + count * width ≤ 8 * length img.old) }
+    requires data_holds { (width < 8 * size) × (size ≤ 8) × (from + count * size ≤ length dat.now) }
+    requires image_holds { (at + count * width + width < 2 ^ 63) × (at + count * width ≤ 8 * length img.old) }
     requires samples_fit { SamplesFit dat.now from size width count }
     ensures { img.new
         ≡ samples_written dat.now from size width at width count img.old }
@@ -257,8 +257,8 @@ fn pack_side_by_side(
     width: usize,
     count: usize,
 )
-    requires width_bound { (width < 8 * size) × (size ≤ 8) × (from + count * size ≤ length dat.now) }
-    requires width_bound_2 { (at + count * width + width < 2 ^ 63) × (at + count * width ≤ 8 * length img.old) }
+    requires data_holds { (width < 8 * size) × (size ≤ 8) × (from + count * size ≤ length dat.now) }
+    requires image_holds { (at + count * width + width < 2 ^ 63) × (at + count * width ≤ 8 * length img.old) }
     requires samples_fit { SamplesFit dat.now from size width count }
     ensures { img.new
         ≡ samples_written dat.now from size width at width count img.old }
@@ -288,8 +288,8 @@ pub fn pack(
     width: usize,
     count: usize,
 )
-    requires width_bound { (width < 8 * size) × (size ≤ 8) × (from + count * size ≤ length dat.now) }
-    requires width_bound_2 { (at + count * step + width < 2 ^ 63) × (at + count * step + width ≤ 8 * length img.old + step) }
+    requires data_holds { (width < 8 * size) × (size ≤ 8) × (from + count * size ≤ length dat.now) }
+    requires image_holds { (at + count * step + width < 2 ^ 63) × (at + count * step + width ≤ 8 * length img.old + step) }
     requires samples_fit { SamplesFit dat.now from size width count }
     ensures { img.new
         ≡ samples_written dat.now from size width at step count img.old }

@@ -59,9 +59,9 @@ pub fn read_samples(
     out: &mut [u8],
     to: usize,
 )
-    requires width_bound { (width ≤ 8 * size) × (size ≤ 8) × ((width < 8 * size → width ≤ 57)) }
-    requires at_value { width ≡ 8 * size → (at % 8 ≡ 0) × (step % 8 ≡ 0) }
-    requires width_bound_2 { (at + count * step + width < 2 ^ 63) × (at + count * step + width ≤ 8 * length src.now + step)
+    requires width_fits { (width ≤ 8 * size) × (size ≤ 8) × ((width < 8 * size → width ≤ 57)) }
+    requires whole_bytes { width ≡ 8 * size → (at % 8 ≡ 0) × (step % 8 ≡ 0) }
+    requires buffers_hold { (at + count * step + width < 2 ^ 63) × (at + count * step + width ≤ 8 * length src.now + step)
         × (to + count * size ≤ length out.old) }
     ensures { out.new ≡ samples_read src.now at step width size count to out.old }
 {

@@ -40,8 +40,8 @@ fn unpack_by_eight_any(
     out: &mut [u8],
     to: usize,
 )
-    requires width_bound { (width ≤ 57) × (size ≤ 8) × (at + count * step + width < 2 ^ 63) }
-    requires fact { ((0 < count → (at + count * step) / 8 + 8 ≤ length src.now))
+    requires width_fits { (width ≤ 57) × (size ≤ 8) × (at + count * step + width < 2 ^ 63) }
+    requires buffers_hold { ((0 < count → (at + count * step) / 8 + 8 ≤ length src.now))
         × (to + count * size ≤ length out.old) }
     ensures { out.new ≡ samples_read src.now at step width size count to out.old }
 {
@@ -62,8 +62,8 @@ fn unpack_by_eight(
     out: &mut [u8],
     to: usize,
 )
-    requires width_bound { (width ≤ 57) × (size ≤ 8) × (at + count * step + width < 2 ^ 63) }
-    requires fact { ((0 < count → (at + count * step) / 8 + 8 ≤ length src.now))
+    requires width_fits { (width ≤ 57) × (size ≤ 8) × (at + count * step + width < 2 ^ 63) }
+    requires buffers_hold { ((0 < count → (at + count * step) / 8 + 8 ≤ length src.now))
         × (to + count * size ≤ length out.old) }
     ensures { out.new ≡ samples_read src.now at step width size count to out.old }
 {
@@ -86,8 +86,8 @@ fn unpack_rest(
     out: &mut [u8],
     to: usize,
 )
-    requires width_bound { (width ≤ 57) × (size ≤ 8) × (at + count * step + width < 2 ^ 63) }
-    requires width_bound_2 { (at + count * step + width ≤ 8 * length src.now + step) × (to + count * size ≤ length out.old) }
+    requires width_fits { (width ≤ 57) × (size ≤ 8) × (at + count * step + width < 2 ^ 63) }
+    requires buffers_hold { (at + count * step + width ≤ 8 * length src.now + step) × (to + count * size ≤ length out.old) }
     ensures { out.new ≡ samples_read src.now at step width size count to out.old }
 {
     for k in 0..count {
@@ -127,8 +127,8 @@ pub fn unpack(
     out: &mut [u8],
     to: usize,
 )
-    requires width_bound { (width ≤ 57) × (size ≤ 8) × (at + count * step + width < 2 ^ 63) }
-    requires width_bound_2 { (at + count * step + width ≤ 8 * length src.now + step) × (to + count * size ≤ length out.old) }
+    requires width_fits { (width ≤ 57) × (size ≤ 8) × (at + count * step + width < 2 ^ 63) }
+    requires buffers_hold { (at + count * step + width ≤ 8 * length src.now + step) × (to + count * size ≤ length out.old) }
     ensures { out.new ≡ samples_read src.now at step width size count to out.old }
 {
     let most = count_by_eight(src.len(), at, step, count);

@@ -68,9 +68,9 @@ pub fn write_samples(
     width: usize,
     count: usize,
 )
-    requires width_bound { (width ≤ 8 * size) × (size ≤ 8) × (from + count * size ≤ length dat.now) }
-    requires at_value { width ≡ 8 * size → (at % 8 ≡ 0) × (step % 8 ≡ 0) }
-    requires width_bound_2 { (at + count * step + width < 2 ^ 63) × (at + count * step + width ≤ 8 * length img.old + step) }
+    requires data_holds { (width ≤ 8 * size) × (size ≤ 8) × (from + count * size ≤ length dat.now) }
+    requires whole_bytes { width ≡ 8 * size → (at % 8 ≡ 0) × (step % 8 ≡ 0) }
+    requires image_holds { (at + count * step + width < 2 ^ 63) × (at + count * step + width ≤ 8 * length img.old + step) }
     requires samples_fit { width < 8 * size → SamplesFit dat.now from size width count }
     ensures { img.new
         ≡ samples_written dat.now from size width at step count img.old }

@@ -36,7 +36,7 @@ use Rattle.fields.specs.Sides.{effective, written_side}
 use Rattle.subheader.specs.Subheader.{parts_fit, first_numbers, third_numbers, q23, q24}
 use Rattle.subheader.specs.Subheader.{grid_of_parts, fields_in, read_number, read_as, read_subheader, write_number}
 use Rattle.subheader.specs.Subheader.{q24_write, first_entries, second_entries, third_entries, PartsOut, write_subheader}
-use Rattle.subheader.specs.RoundTrip.{RuleNotWritten, Eights, read_back_lem, WrittenReadsBack, ReadWrittenAgain}
+use Rattle.subheader.specs.RoundTrip.{RuleNotWritten, Eights, read_back, WrittenReadsBack, ReadWrittenAgain}
 use Rattle.fields.proofs.Entries.{Fits, Laid, laid_reads, length-put_all, length-bytes_in, bytes_in-front}
 use Rattle.fields.proofs.Values.{pvtype_back, pjust_back, ic_back, imode_back}
 use Rattle.subheader.proofs.Parts.{held, Held, lengths, fit, numbered, ready}
@@ -273,7 +273,7 @@ written_reads_back s first second third t e =
     let n : write_number s (length first) (length second) (length third) ≡ 0 =
     outcome-zero _ _ _ (λ (o : PartsOut). o.number) (λ k. refl) e in
     let h = held s (length first) (length second) (length third) n in
-    ap (λ (o : PartsOut). read_back_lem o s.grid.bands s.grid.edges) (outcome-yes _ _ n)
+    ap (λ (o : PartsOut). read_back o s.grid.bands s.grid.edges) (outcome-yes _ _ n)
     ∙ read_back_lem s _ _ _ (written s first second third t h) h.abpp-le h.accepted
 
 -- a read subheader: its fields, and that they can be written
@@ -303,9 +303,9 @@ read first second third bands edges e =
       accepted = b.1;
     }
 
-pub read_written_again : ReadWrittenAgain
+pub read-written_again : ReadWrittenAgain
 unfolding write_number q24_write
-read_written_again first second third bands edges a b c e room =
+read-written_again first second third bands edges a b c e room =
     let r = read first second third bands edges e in
     let s = fields_in first second third bands edges in
     let n : write_number s (length a) (length b) (length c) ≡ 0 =

@@ -1,5 +1,6 @@
 // Three parts of an image subheader, as MIL-STD-2500C has their fields: NROWS to PJUST, IC, and IMODE to NBPP.
 
+#![tactic(auto)]
 mod read;
 mod write;
 
@@ -7,7 +8,7 @@ use fields::named::{ImageCompression, PixelJustification, PixelValueType};
 use grid::Grid;
 
 // The fields of the three parts. IREP and ICAT are carried unread.
-#[derive(Drop)]
+#[derive(Clone, Copy)]
 pub struct ImageSubheader {
     pub pvtype: PixelValueType,
     pub irep: [u8; 8],
@@ -20,7 +21,7 @@ pub struct ImageSubheader {
 }
 
 // What the reader answers.
-#[derive(Drop)]
+#[derive(Clone, Copy)]
 pub struct ReadSubheader {
     pub number: u32,
     pub subheader: ImageSubheader,

@@ -4,7 +4,7 @@ ghost use Rattle.std.specs.Prelude.{◌<◌};
 const OUT: i32 = 1;
 
 // Values from `from` on, all answered by `number`.
-#[derive(Drop)]
+#[derive(Clone, Copy)]
 pub struct Run {
     pub from: u32,
     pub number: u32,

@@ -3,7 +3,7 @@ ghost use Rattle.std.specs.Prelude.{◌≡◌, ◌+◌, ◌*◌, ◌^◌, ◌<�
 ghost use Rattle.windows.specs.Internal.Windows.{cut_of};
 
 // The first place in the part, how many places, and the first in the window.
-#[derive(Drop)]
+#[derive(Clone, Copy)]
 pub struct Cut {
     pub from: usize,
     pub count: usize,

@@ -1,4 +1,5 @@
 // Reading a window: any rectangle of the picture, across blocks.
+#![tactic(auto)]
 ghost use Rattle.std.specs.Prelude.{◌≡◌};
 ghost use Rattle.layout.specs.Bands.{bands_of};
 ghost use Rattle.calls.specs.Orders.{window_number, rectangle};

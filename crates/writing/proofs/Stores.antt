@@ -21,10 +21,10 @@ use Rattle.marks.specs.Marks.{mark_words}
 use Rattle.grid.specs.Internal.BlockLayouts.{layout_of}
 use Rattle.grid.proofs.BlockLayouts.{place_is, run_is, end_is, sound}
 use Rattle.samples.specs.Internal.Samples.{SamplesFit}
-use Rattle.moves.specs.Internal.Stores.{Writable, put_block as put_in, clear_runs as clearIn, store_by_lem as storeByIn, store_block as storeIn, data_at as dataIn}
+use Rattle.moves.specs.Internal.Stores.{Writable, put_block as put_in, clear_runs as clearIn, store_by as storeByIn, store_block as storeIn, data_at as dataIn}
 use Rattle.calls.specs.Orders.{q26}
 use Rattle.calls.proofs.Fit.{fit_at}
-use Rattle.calls.specs.Writes.{data_at, put_block, clear_runs, store_by_lem, store_block}
+use Rattle.calls.specs.Writes.{data_at, put_block, clear_runs, store_by, store_block}
 
 -- the word of a block's mark is one of the words
 pub mark_in : (g : Grid) (words row column : ℕ) → mark_words (blocks g) ≤ words → Block g row column → block_index g row column / 64 < words
@@ -43,8 +43,8 @@ unfolding clearIn clear_runs
 clear_is g row column image =
     iter_ext g.bands _ _ image (λ i hi x. ap (λ (p : ℕ). over x p (replicate (band_bytes g) 0)) (sym (run_is g.imode g (block_index g row column) i)))
 
-store_by_lem : (w : Bool) (g : Grid) (row column : ℕ) (dat image : List ℕ) → storeByIn w (layout_of g row column) dat image ≡ store_by_lem w g row column dat image
-unfolding storeByIn store_by_lem
+store_by_lem : (w : Bool) (g : Grid) (row column : ℕ) (dat image : List ℕ) → storeByIn w (layout_of g row column) dat image ≡ store_by w g row column dat image
+unfolding storeByIn store_by
 store_by_lem true g row column dat image = put_is g row column dat image
 store_by_lem false g row column dat image = ap (put_in (layout_of g row column) dat) (clear_is g row column image) ∙ put_is g row column dat (clear_runs g row column image)
 

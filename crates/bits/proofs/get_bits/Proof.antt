@@ -14,10 +14,10 @@ use Rattle.bits.proofs.Shift.{shl_or}
 use Rattle.bits.proofs.get_bits.Statement.{statement}
 use Rattle.bits.proofs.get_bits.Tie as tie
 
-abbrev invariant-loop : tie.invariant-loop
+abbrev invariant-loop : tie.invariant-loop-done
 invariant-loop buf at width acc₀ done₀ acc done = (done ≤ width) × (acc ≡ bits_at buf at done)
 
-abbrev decreases-loop : tie.decreases-loop
+abbrev decreases-loop : tie.decreases-loop-done
 decreases-loop buf at width acc₀ done₀ acc done = width - done
 
 -- a turn: the n bits that lie in the next byte are added
@@ -29,57 +29,57 @@ turn xs at width acc d n f ea hd hw en ef =
     ∙ ap₂ (λ (a b : ℕ). a * 2 ^ n + b) ea ef
     ∙ sym (bits_at-turn xs at d n (omega arith))
 
-loop-holds : tie.Need-loop-init invariant-loop decreases-loop
+loop-holds : tie.Need-loop-done-init invariant-loop decreases-loop
 unfolding bits_at
 loop-holds c = omega arith
 
-add-p : tie.Need-overflow-add-p invariant-loop decreases-loop
+add-p : tie.Need-overflow_add-p invariant-loop decreases-loop
 add-p c = omega arith
 
-sub-room : tie.Need-overflow-sub-room invariant-loop decreases-loop
+sub-room : tie.Need-overflow_sub-room invariant-loop decreases-loop
 sub-room c = omega arith
 
-sub-min : tie.Need-overflow-sub-min invariant-loop decreases-loop
+sub-min : tie.Need-overflow_sub-width invariant-loop decreases-loop
 sub-min c = omega arith
 
-min-requires : tie.Need-min-requires invariant-loop decreases-loop
+min-requires : tie.Need-min-n-requires invariant-loop decreases-loop
 min-requires c κs = omega arith
 
-shared-slice-read-field : tie.Need-shared-slice-read-field invariant-loop decreases-loop
+shared-slice-read-field : tie.Need-bounds-buf-p invariant-loop decreases-loop
 shared-slice-read-field c = omega arith
 
-cast-field : tie.Need-overflow-cast-field invariant-loop decreases-loop
-cast-field c = omega (arith, c.shared-slice-known2.given ((c.before.before.before.before.before.args.at + c.before.before.before.loop.done) / 8))
+cast-field : tie.Need-overflow_cast-buf invariant-loop decreases-loop
+cast-field c = omega (arith, c.shared_slice_known-in-loop-done-1.given ((c.before.before.before.before.before.args.at + c.before.before.before.loop-done.done) / 8))
 
-sub-field : tie.Need-overflow-sub-field invariant-loop decreases-loop
+sub-field : tie.Need-overflow_sub-room-in-loop-done invariant-loop decreases-loop
 sub-field c = omega arith
 
-field-requires : tie.Need-field-requires invariant-loop decreases-loop
+field-requires : tie.Need-field-f-requires invariant-loop decreases-loop
 field-requires c κs = omega arith
 
-shl-acc : tie.Need-overflow-shl-acc invariant-loop decreases-loop
+shl-acc : tie.Need-overflow_shl-acc invariant-loop decreases-loop
 shl-acc c = omega arith
 
-add_done : tie.Need-overflow-add-done invariant-loop decreases-loop
+add_done : tie.Need-overflow_add-done invariant-loop decreases-loop
 add_done c = omega arith
 
-loop-less : tie.Need-loop-smaller invariant-loop decreases-loop
+loop-less : tie.Need-loop-done-smaller invariant-loop decreases-loop
 loop-less c = omega arith
 
-loop-again : tie.Need-loop-preserved invariant-loop decreases-loop
+loop-again : tie.Need-loop-done-preserved invariant-loop decreases-loop
 loop-again c =
     let head = c.before.before.before.before in
     let start = head.before.before in (
       omega arith,
-      turn start.args.buf.now start.args.at start.args.width head.loop.acc head.loop.done c.before.before.min.result c.field.result
-          head.loop.invariant.1 (omega arith) (omega arith) c.before.before.min.ensures c.field.ensures,
+      turn start.args.buf.now start.args.at start.args.width head.loop-done.acc head.loop-done.done c.before.before.min-n.result c.field-f.result
+          head.loop-done.invariant.1 (omega arith) (omega arith) c.before.before.min-n.ensures c.field-f.ensures,
     )
 
 returns : tie.Need-returns invariant-loop decreases-loop
 returns c =
     let start = c.before.before.before in
-    let e : c.before.loop.done ≡ start.args.width = omega arith in
-    c.before.loop.invariant.1 ∙ ap (bits_at start.args.buf.now start.args.at) e
+    let e : c.before.loop-done.done ≡ start.args.width = omega arith in
+    c.before.loop-done.invariant.1 ∙ ap (bits_at start.args.buf.now start.args.at) e
 
 pub get_bits_spec : {M : Type 1} → statement M
 get_bits_spec =

@@ -34,25 +34,25 @@ small x k n v hx hk hv =
     let e : 8 - (k + n) + (k + n) ≡ 8 = omega arith in
     rw e at (with_field_lt x (8 - (k + n)) k n v (rw e hx) hv)
 
-add-high : tie.Need-overflow-add-high
+add-high : tie.Need-overflow_add-high
 add-high c = search rules
 
-shr_high : tie.Need-overflow-shr-high
+shr_high : tie.Need-overflow_shr-high
 shr_high c = search rules
 
-shl-mid : tie.Need-overflow-shl-mid
+shl-mid : tie.Need-overflow_shl-mid
 shl-mid c = search rules
 
-shl-all : tie.Need-overflow-shl-all
+shl-all : tie.Need-overflow_shl-all
 shl-all c = search rules
 
-shl-all-2 : tie.Need-overflow-shl-all-2
+shl-all-2 : tie.Need-overflow_shl-all-2
 shl-all-2 c = search rules
 
-sub-all : tie.Need-overflow-sub-all
+sub-all : tie.Need-overflow_sub-all
 sub-all c = rw (one_shl c.args.low (omega arith)) (pow_pos c.args.low)
 
-cast-result : tie.Need-overflow-cast-result
+cast-result : tie.Need-overflow_cast-result
 cast-result c = record { fits = rw (is_field c.args.x c.args.low c.args.n c.args.v (omega arith) (omega arith) (omega arith)) (small c.args.x c.args.low c.args.n c.args.v (omega arith) (omega arith) (omega arith)) }
 
 returns : tie.Need-returns

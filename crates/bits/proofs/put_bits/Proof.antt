@@ -12,10 +12,10 @@ use Rattle.bits.proofs.Bits.{put_bits-turn}
 use Rattle.bits.proofs.put_bits.Statement.{statement}
 use Rattle.bits.proofs.put_bits.Tie as tie
 
-abbrev invariant-loop : tie.invariant-loop
+abbrev invariant-loop : tie.invariant-loop-done
 invariant-loop buf₀ at width value done₀ buf done = (done ≤ width) × (buf ≡ put_bits buf₀ at done (value / 2 ^ (width - done))) × (length buf ≡ length buf₀)
 
-abbrev decreases-loop : tie.decreases-loop
+abbrev decreases-loop : tie.decreases-loop-done
 decreases-loop buf₀ at width value done₀ buf done = width - done
 
 -- a turn: the bits that lie in the next byte are put
@@ -25,73 +25,73 @@ turn : (xs ys : List ℕ) (at width v d n f b : ℕ) → ys ≡ put_bits xs at d
 turn xs ys at width v d n f b ey hd hw en ef eb =
     rw (eb, ef, ey) (put_bits-turn xs at width d n v (omega arith) (omega arith) (omega arith))
 
-loop-holds : tie.Need-loop-init invariant-loop decreases-loop
+loop-holds : tie.Need-loop-done-init invariant-loop decreases-loop
 unfolding put_bits
 loop-holds c = (omega arith, refl, refl)
 
-add-p : tie.Need-overflow-add-p invariant-loop decreases-loop
+add-p : tie.Need-overflow_add-p invariant-loop decreases-loop
 add-p c = omega arith
 
-sub-room : tie.Need-overflow-sub-room invariant-loop decreases-loop
+sub-room : tie.Need-overflow_sub-room invariant-loop decreases-loop
 sub-room c = omega arith
 
-sub-min : tie.Need-overflow-sub-min invariant-loop decreases-loop
+sub-min : tie.Need-overflow_sub-width invariant-loop decreases-loop
 sub-min c = omega arith
 
-min-requires : tie.Need-min-requires invariant-loop decreases-loop
+min-requires : tie.Need-min-n-requires invariant-loop decreases-loop
 min-requires c κs = omega arith
 
-sub-field : tie.Need-overflow-sub-field invariant-loop decreases-loop
+sub-field : tie.Need-overflow_sub-width-in-loop-done invariant-loop decreases-loop
 sub-field c = omega arith
 
-sub-field-2 : tie.Need-overflow-sub-field-2 invariant-loop decreases-loop
+sub-field-2 : tie.Need-overflow_sub-width-in-loop-done-2 invariant-loop decreases-loop
 sub-field-2 c = omega arith
 
-field-requires : tie.Need-field-requires invariant-loop decreases-loop
+field-requires : tie.Need-field-f-requires invariant-loop decreases-loop
 field-requires c κs = omega arith
 
-slice-read-merge : tie.Need-slice-read-merge invariant-loop decreases-loop
+slice-read-merge : tie.Need-bounds-buf-i invariant-loop decreases-loop
 slice-read-merge c = omega arith
 
-sub-merge : tie.Need-overflow-sub-merge invariant-loop decreases-loop
+sub-merge : tie.Need-overflow_sub-room-in-loop-done invariant-loop decreases-loop
 sub-merge c = omega arith
 
 merge-requires : tie.Need-merge-requires invariant-loop decreases-loop
 merge-requires c κs =
     let head = c.before.before.before.before in
     let start = head.before.before in
-    let n : ℕ = c.before.before.min.result in
-    (omega arith, rw c.before.field.ensures (mod-lt (start.args.value / 2 ^ (start.args.width - head.loop.done - n)) (pow_pos n)))
+    let n : ℕ = c.before.before.min-n.result in
+    (omega arith, rw c.before.field-f.ensures (mod-lt (start.args.value / 2 ^ (start.args.width - head.loop-done.done - n)) (pow_pos n)))
 
-slice-write-buf : tie.Need-slice-write-buf invariant-loop decreases-loop
+slice-write-buf : tie.Need-bounds-buf-i-in-loop-done invariant-loop decreases-loop
 slice-write-buf c = omega arith
 
-add_done : tie.Need-overflow-add-done invariant-loop decreases-loop
+add_done : tie.Need-overflow_add-done invariant-loop decreases-loop
 add_done c = omega arith
 
-loop-less : tie.Need-loop-smaller invariant-loop decreases-loop
+loop-less : tie.Need-loop-done-smaller invariant-loop decreases-loop
 loop-less c = omega arith
 
-loop-again : tie.Need-loop-preserved invariant-loop decreases-loop
+loop-again : tie.Need-loop-done-preserved invariant-loop decreases-loop
 loop-again c =
     let head = c.before.before.before.before.before in
     let start = head.before.before in (
       omega arith,
-      turn start.args.buf.now head.loop.buf start.args.at start.args.width start.args.value head.loop.done c.before.before.before.min.result
-          c.before.before.field.result c.merge.result head.loop.invariant.1 (omega arith) (omega arith)
-          c.before.before.before.min.ensures c.before.before.field.ensures c.merge.ensures,
-      rw length-set head.loop.invariant.2,
+      turn start.args.buf.now head.loop-done.buf start.args.at start.args.width start.args.value head.loop-done.done c.before.before.before.min-n.result
+          c.before.before.field-f.result c.merge.result head.loop-done.invariant.1 (omega arith) (omega arith)
+          c.before.before.before.min-n.ensures c.before.before.field-f.ensures c.merge.ensures,
+      rw length-set head.loop-done.invariant.2,
     )
 
-same_length : tie.Need-same-length invariant-loop decreases-loop
+same_length : tie.Need-shape_of-buf invariant-loop decreases-loop
 same_length c = omega arith
 
 returns : tie.Need-returns invariant-loop decreases-loop
 returns c =
     let start = c.before.before.before in
-    let e : c.before.loop.done ≡ start.args.width = omega arith in
+    let e : c.before.loop-done.done ≡ start.args.width = omega arith in
     let z : start.args.width - start.args.width ≡ 0 = omega arith in
-    c.before.loop.invariant.1 ∙ rw (e, z, div-one)
+    c.before.loop-done.invariant.1 ∙ rw (e, z, div-one)
 
 pub put_bits_spec : {M : Type 1} → statement M
 put_bits_spec =

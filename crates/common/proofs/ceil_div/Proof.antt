@@ -8,22 +8,22 @@ use Rattle.common.proofs.Arith.{ceil_le}
 use Rattle.common.proofs.ceil_div.Statement.{statement}
 use Rattle.common.proofs.ceil_div.Tie as tie
 
-returns : tie.Need-returns
-returns c = rw c.if1.true (sym (div-zero _))
+returns : tie.Need-returns-then-b-eq0
+returns c = rw c.if-b-eq0.true (sym (div-zero _))
 
-sub_wide : tie.Need-overflow-sub-wide
+sub_wide : tie.Need-overflow_sub-wide
 sub_wide c = search rules
 
-add_wide : tie.Need-overflow-add-wide
+add_wide : tie.Need-overflow_add-wide
 add_wide c = search rules
 
-div-result : tie.Need-nonzero-div-result
+div-result : tie.Need-nonzero_div-result
 div-result c = search rules
 
-cast-result : tie.Need-overflow-cast-result
-cast-result c = omega (arith, ceil_le c.before.args.a c.before.args.b (omega arith))
+cast-result : tie.Need-overflow_cast-result-2
+cast-result c = omega (arith, ceil_le c.args.a c.args.b (omega arith))
 
-returns-2 : tie.Need-returns-2
+returns-2 : tie.Need-returns
 returns-2 c = search rules
 
 pub ceil_div_spec : {M : Type 1} → statement M

@@ -15,12 +15,12 @@ use Rattle.digits.proofs.Digits.{Digit, digit_at, number-go}
 use Rattle.digits.proofs.number_of.Statement.{statement}
 use Rattle.digits.proofs.number_of.Tie as tie
 
-abbrev invariant-loop : tie.invariant-loop
+abbrev invariant-loop : tie.invariant-loop-j
 invariant-loop bytes number₀ j₀ j-end number j =
     (j ≤ length bytes) × (j-end ≡ length bytes) × (with_digits number (drop j bytes) ≡ number_of bytes)
     × (are_digits (drop j bytes) ≡ true) × (number < 10 ^ j)
 
-abbrev decreases-loop : tie.decreases-loop
+abbrev decreases-loop : tie.decreases-loop-j
 decreases-loop bytes number₀ j₀ j-end number j = length bytes - j
 
 -- a number of at most eight digits
@@ -30,59 +30,59 @@ room n j h l =
     lt_of_lt_of_le h (pow-le-pow_right (lit< tt) top)
 
 -- in a turn: the digit read, and the number so far
-digit : (c : tie.After-shared-slice-known invariant-loop decreases-loop)
-    → let a = c.before.before.before.args in
-    let j = c.before.before.loop.j in
+digit : (c : tie.After-shared_slice_known-1 invariant-loop decreases-loop)
+    → let a = c.args in
+    let j = c.loop-j.j in
     Digit (get_or a.bytes.now j 0) (drop (j + 1) a.bytes.now)
-digit c = digit_at c.before.before.before.args.bytes.now c.before.before.loop.j (omega arith) c.before.before.loop.invariant.3
+digit c = digit_at c.args.bytes.now c.loop-j.j (omega arith) c.loop-j.invariant.3
 
-small : (c : tie.After-shared-slice-known invariant-loop decreases-loop) → c.before.before.loop.number < 100_000_000
-small c = room c.before.before.loop.number c.before.before.loop.j c.before.before.loop.invariant.4 (omega arith)
+small : (c : tie.After-shared_slice_known-1 invariant-loop decreases-loop) → c.loop-j.number < 100_000_000
+small c = room c.loop-j.number c.loop-j.j c.loop-j.invariant.4 (omega arith)
 
-loop-holds : tie.Need-loop-init invariant-loop decreases-loop
+loop-holds : tie.Need-loop-j-init invariant-loop decreases-loop
 loop-holds c = (omega arith, refl, refl, c.requires.1, omega (arith, pow-zero 10))
 
-mul-number : tie.Need-overflow-mul-number invariant-loop decreases-loop
-mul-number c = omega (arith, room c.before.loop.number c.before.loop.j c.before.loop.invariant.4 (omega arith))
+mul-number : tie.Need-overflow_mul-number invariant-loop decreases-loop
+mul-number c = omega (arith, room c.loop-j.number c.loop-j.j c.loop-j.invariant.4 (omega arith))
 
-shared-slice-read-number : tie.Need-shared-slice-read-number invariant-loop decreases-loop
+shared-slice-read-number : tie.Need-bounds-bytes-j invariant-loop decreases-loop
 shared-slice-read-number c = omega arith
 
-sub_number : tie.Need-overflow-sub-number invariant-loop decreases-loop
+sub_number : tie.Need-overflow_sub-number invariant-loop decreases-loop
 sub_number c = (digit c).low
 
-cast-number : tie.Need-overflow-cast-number invariant-loop decreases-loop
+cast-number : tie.Need-overflow_cast-number invariant-loop decreases-loop
 cast-number c = omega (arith, digit c)
 
-add-number : tie.Need-overflow-add-number invariant-loop decreases-loop
+add-number : tie.Need-overflow_add-number invariant-loop decreases-loop
 add-number c = omega (arith, digit c, small c)
 
-add-j : tie.Need-overflow-add-j invariant-loop decreases-loop
+add-j : tie.Need-overflow_step-j invariant-loop decreases-loop
 add-j c = omega arith
 
-loop-less : tie.Need-loop-smaller invariant-loop decreases-loop
+loop-less : tie.Need-loop-j-smaller invariant-loop decreases-loop
 loop-less c = omega arith
 
-loop-again : tie.Need-loop-preserved invariant-loop decreases-loop
+loop-again : tie.Need-loop-j-preserved invariant-loop decreases-loop
 loop-again c =
     let l = c.before.before in
-    let xs : List ℕ = l.before.args.bytes.now in
+    let xs : List ℕ = l.args.bytes.now in
     let d = digit c in
-    let p : 10 ^ (l.loop.j + 1) ≡ 10 ^ l.loop.j * 10 = rw add-one (pow-suc 10 l.loop.j) in (
+    let p : 10 ^ (l.loop-j.j + 1) ≡ 10 ^ l.loop-j.j * 10 = rw add-one (pow-suc 10 l.loop-j.j) in (
       omega arith,
       refl,
-      number-go l.loop.number xs l.loop.j (omega arith) ∙ l.loop.invariant.2,
+      number-go l.loop-j.number xs l.loop-j.j (omega arith) ∙ l.loop-j.invariant.2,
       d.rest,
-      omega (arith, d, p, l.loop.invariant.4),
+      omega (arith, d, p, l.loop-j.invariant.4),
     )
 
 returns : tie.Need-returns invariant-loop decreases-loop
 unfolding with_digits
 returns c =
-    let a = c.before.before.args in
-    let e : c.before.loop.j ≡ length a.bytes.now = omega arith in
-    ap (with_digits c.before.loop.number) (sym (drop-length a.bytes.now) ∙ ap (λ (n : ℕ). drop n a.bytes.now) (sym e))
-    ∙ c.before.loop.invariant.2
+    let a = c.args in
+    let e : c.loop-j.j ≡ length a.bytes.now = omega arith in
+    ap (with_digits c.loop-j.number) (sym (drop-length a.bytes.now) ∙ ap (λ (n : ℕ). drop n a.bytes.now) (sym e))
+    ∙ c.loop-j.invariant.2
 
 pub number_of_spec : {M : Type 1} → statement M
 number_of_spec =

@@ -10,12 +10,12 @@ use Rattle.digits.specs.Digits.{digit_bytes}
 use Rattle.digits.proofs.put_digits.Statement.{statement}
 use Rattle.digits.proofs.put_digits.Tie as tie
 
-abbrev invariant-loop : tie.invariant-loop
+abbrev invariant-loop : tie.invariant-loop-j
 invariant-loop out₀ number size left₀ j₀ out left j =
     (j ≤ size) × (size ≡ length out) × (length out ≡ length out₀)
     × (digit_bytes (size - j) left ++ drop (size - j) out ≡ digit_bytes size number)
 
-abbrev decreases-loop : tie.decreases-loop
+abbrev decreases-loop : tie.decreases-loop-j
 decreases-loop out₀ number size left₀ j₀ out left j = size - j
 
 -- a turn: one more digit, from the end on
@@ -29,57 +29,57 @@ turn out k left h =
     (drop-cons (set out k x) k 0 l ∙ ap₂ ◌∷◌ (get_or-set_same out k x 0 h) (drop-set-lt (suc k) out k x (omega arith)))
     ∙ sym (append_snoc (digit_bytes k (left / 10)) x (drop (suc k) out))
 
-loop-holds : tie.Need-loop-init invariant-loop decreases-loop
+loop-holds : tie.Need-loop-j-init invariant-loop decreases-loop
 loop-holds c =
     let xs : List ℕ = c.args.out.now in
     let z : length xs - 0 ≡ length xs = omega arith in
     (omega arith, refl, refl, rw (z, drop-length) (append-nil (digit_bytes (length xs) c.args.number)))
 
-cast-out : tie.Need-overflow-cast-out invariant-loop decreases-loop
+cast-out : tie.Need-overflow_cast-out invariant-loop decreases-loop
 cast-out c = omega arith
 
-add-out : tie.Need-overflow-add-out invariant-loop decreases-loop
+add-out : tie.Need-overflow_add-out invariant-loop decreases-loop
 add-out c = omega arith
 
-sub_out : tie.Need-overflow-sub-out invariant-loop decreases-loop
+sub_out : tie.Need-overflow_sub-out invariant-loop decreases-loop
 sub_out c = omega arith
 
-sub-out-2 : tie.Need-overflow-sub-out-2 invariant-loop decreases-loop
+sub-out-2 : tie.Need-overflow_sub-out-in-loop-j invariant-loop decreases-loop
 sub-out-2 c = omega arith
 
-slice-write-out : tie.Need-slice-write-out invariant-loop decreases-loop
+slice-write-out : tie.Need-bounds-out-size invariant-loop decreases-loop
 slice-write-out c = omega arith
 
-add-j : tie.Need-overflow-add-j invariant-loop decreases-loop
+add-j : tie.Need-overflow_step-j invariant-loop decreases-loop
 add-j c = omega arith
 
-loop-less : tie.Need-loop-smaller invariant-loop decreases-loop
+loop-less : tie.Need-loop-j-smaller invariant-loop decreases-loop
 loop-less c = omega arith
 
-loop-again : tie.Need-loop-preserved invariant-loop decreases-loop
+loop-again : tie.Need-loop-j-preserved invariant-loop decreases-loop
 loop-again c =
     let l = c.before in
-    let n : ℕ = length l.before.args.out.now in
-    let k : ℕ = n - (l.loop.j + 1) in
-    let x : ℕ = 0x30 + l.loop.left % 10 in
-    let e : n - l.loop.j - 1 ≡ k = omega arith in
-    let f : n - l.loop.j ≡ suc k = omega arith in
-    let h : k < length l.loop.out = omega arith in (
+    let n : ℕ = length l.args.out.now in
+    let k : ℕ = n - (l.loop-j.j + 1) in
+    let x : ℕ = 0x30 + l.loop-j.left % 10 in
+    let e : n - l.loop-j.j - 1 ≡ k = omega arith in
+    let f : n - l.loop-j.j ≡ suc k = omega arith in
+    let h : k < length l.loop-j.out = omega arith in (
       omega arith,
-      rw length-set l.loop.invariant.1,
-      rw length-set l.loop.invariant.2,
-      rw e (turn l.loop.out k l.loop.left h ∙ (rw f at l.loop.invariant.3)),
+      rw length-set l.loop-j.invariant.1,
+      rw length-set l.loop-j.invariant.2,
+      rw e (turn l.loop-j.out k l.loop-j.left h ∙ (rw f at l.loop-j.invariant.3)),
     )
 
-same_length : tie.Need-same-length invariant-loop decreases-loop
-same_length c = c.before.loop.invariant.2
+same_length : tie.Need-shape_of-out invariant-loop decreases-loop
+same_length c = c.loop-j.invariant.2
 
 returns : tie.Need-returns invariant-loop decreases-loop
 unfolding digit_bytes
 returns c =
-    let n : ℕ = length c.before.before.args.out.now in
-    let z : n - c.before.loop.j ≡ 0 = omega arith in
-    rw z at c.before.loop.invariant.3
+    let n : ℕ = length c.args.out.now in
+    let z : n - c.loop-j.j ≡ 0 = omega arith in
+    rw z at c.loop-j.invariant.3
 
 pub put_digits_spec : {M : Type 1} → statement M
 put_digits_spec =

@@ -12,10 +12,10 @@ use Rattle.common.proofs.Over.{over_none, set-over}
 use Rattle.bits.proofs.bytes.copy.Statement.{statement}
 use Rattle.bits.proofs.bytes.copy.Tie as tie
 
-abbrev invariant-loop : tie.invariant-loop
+abbrev invariant-loop : tie.invariant-loop-j
 invariant-loop src p n out₀ q j₀ out j = (j ≤ n) × (out ≡ over out₀ q (take j (drop p src))) × (length out ≡ length out₀)
 
-abbrev decreases-loop : tie.decreases-loop
+abbrev decreases-loop : tie.decreases-loop-j
 decreases-loop src p n out₀ q j₀ out j = n - j
 
 -- a turn: one more byte
@@ -28,41 +28,41 @@ turn xs d ys p o j ey h l =
     rw (ey, add-one, take-suc (drop p xs) j 0 (omega arith), get_or-drop)
     (ap (λ (a : ℕ). set (over d o r) (o + a) (get_or xs (p + j) 0)) (sym L) ∙ set-over d o r (get_or xs (p + j) 0) (omega arith))
 
-loop-holds : tie.Need-loop-init invariant-loop decreases-loop
+loop-holds : tie.Need-loop-j-init invariant-loop decreases-loop
 loop-holds c = (omega arith, sym (over_none c.args.out.now c.args.q), refl)
 
-add-out : tie.Need-overflow-add-out invariant-loop decreases-loop
+add-out : tie.Need-overflow_add-out invariant-loop decreases-loop
 add-out c = omega arith
 
-shared-slice-read-out : tie.Need-shared-slice-read-out invariant-loop decreases-loop
+shared-slice-read-out : tie.Need-bounds-src-p invariant-loop decreases-loop
 shared-slice-read-out c = omega arith
 
-add-out-2 : tie.Need-overflow-add-out-2 invariant-loop decreases-loop
+add-out-2 : tie.Need-overflow_add-out-in-loop-j invariant-loop decreases-loop
 add-out-2 c = omega arith
 
-slice-write-out : tie.Need-slice-write-out invariant-loop decreases-loop
+slice-write-out : tie.Need-bounds-out-q invariant-loop decreases-loop
 slice-write-out c = omega arith
 
-add-j : tie.Need-overflow-add-j invariant-loop decreases-loop
+add-j : tie.Need-overflow_step-j invariant-loop decreases-loop
 add-j c = omega arith
 
-loop-less : tie.Need-loop-smaller invariant-loop decreases-loop
+loop-less : tie.Need-loop-j-smaller invariant-loop decreases-loop
 loop-less c = omega arith
 
-loop-again : tie.Need-loop-preserved invariant-loop decreases-loop
+loop-again : tie.Need-loop-j-preserved invariant-loop decreases-loop
 loop-again c =
     let head = c.before.before in
     let a = head.before.args in (
       omega arith,
-      turn a.src.now a.out.now head.loop.out a.p a.q head.loop.j head.loop.invariant.1 (omega arith) (omega arith),
-      rw length-set head.loop.invariant.2,
+      turn a.src.now a.out.now head.loop-j.out a.p a.q head.loop-j.j head.loop-j.invariant.1 (omega arith) (omega arith),
+      rw length-set head.loop-j.invariant.2,
     )
 
-same_length : tie.Need-same-length invariant-loop decreases-loop
+same_length : tie.Need-shape_of-out invariant-loop decreases-loop
 same_length c = omega arith
 
 returns : tie.Need-returns invariant-loop decreases-loop
-returns c = let e : c.before.loop.j ≡ c.before.before.args.n = omega arith in c.before.loop.invariant.1 ∙ rw e
+returns c = let e : c.before.loop-j.j ≡ c.before.before.args.n = omega arith in c.before.loop-j.invariant.1 ∙ rw e
 
 pub copy_spec : {M : Type 1} → statement M
 copy_spec =

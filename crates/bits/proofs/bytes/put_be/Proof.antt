@@ -14,10 +14,10 @@ use Rattle.common.proofs.Over.{over_none, set-over}
 use Rattle.bits.proofs.bytes.put_be.Statement.{statement}
 use Rattle.bits.proofs.bytes.put_be.Tie as tie
 
-abbrev invariant-loop : tie.invariant-loop
+abbrev invariant-loop : tie.invariant-loop-j
 invariant-loop out₀ q size value j₀ out j = (j ≤ size) × (out ≡ over out₀ q (be_bytes j (value / 2 ^ (8 * (size - j))))) × (length out ≡ length out₀)
 
-abbrev decreases-loop : tie.decreases-loop
+abbrev decreases-loop : tie.decreases-loop-j
 decreases-loop out₀ q size value j₀ out j = size - j
 
 -- a turn: one more byte
@@ -32,54 +32,54 @@ turn d ys o s v j ey h l =
     rw (ey, g, e, be_bytes-next)
     (ap (λ (a : ℕ). set (over d o (be_bytes j (w / 256))) (o + a) (w % 256)) (sym L) ∙ set-over d o (be_bytes j (w / 256)) (w % 256) (omega arith))
 
-loop-holds : tie.Need-loop-init invariant-loop decreases-loop
+loop-holds : tie.Need-loop-j-init invariant-loop decreases-loop
 unfolding be_bytes
 loop-holds c = (omega arith, sym (over_none c.args.out.now c.args.q), refl)
 
-sub_out : tie.Need-overflow-sub-out invariant-loop decreases-loop
+sub_out : tie.Need-overflow_sub-out invariant-loop decreases-loop
 sub_out c = omega arith
 
-sub-out-2 : tie.Need-overflow-sub-out-2 invariant-loop decreases-loop
+sub-out-2 : tie.Need-overflow_sub-out-in-loop-j invariant-loop decreases-loop
 sub-out-2 c = omega arith
 
-mul-out : tie.Need-overflow-mul-out invariant-loop decreases-loop
+mul-out : tie.Need-overflow_mul-out invariant-loop decreases-loop
 mul-out c = omega arith
 
-shr-out : tie.Need-overflow-shr-out invariant-loop decreases-loop
+shr-out : tie.Need-overflow_shr-out invariant-loop decreases-loop
 shr-out c = omega arith
 
-cast-out : tie.Need-overflow-cast-out invariant-loop decreases-loop
+cast-out : tie.Need-overflow_cast-out invariant-loop decreases-loop
 cast-out c = omega arith
 
-add-out : tie.Need-overflow-add-out invariant-loop decreases-loop
+add-out : tie.Need-overflow_add-out invariant-loop decreases-loop
 add-out c = omega arith
 
-slice-write-out : tie.Need-slice-write-out invariant-loop decreases-loop
+slice-write-out : tie.Need-bounds-out-q invariant-loop decreases-loop
 slice-write-out c = omega arith
 
-add-j : tie.Need-overflow-add-j invariant-loop decreases-loop
+add-j : tie.Need-overflow_step-j invariant-loop decreases-loop
 add-j c = omega arith
 
-loop-less : tie.Need-loop-smaller invariant-loop decreases-loop
+loop-less : tie.Need-loop-j-smaller invariant-loop decreases-loop
 loop-less c = omega arith
 
-loop-again : tie.Need-loop-preserved invariant-loop decreases-loop
+loop-again : tie.Need-loop-j-preserved invariant-loop decreases-loop
 loop-again c =
     let a = c.before.before.args in (
       omega arith,
-      turn a.out.now c.before.loop.out a.q a.size a.value c.before.loop.j c.before.loop.invariant.1 (omega arith) (omega arith),
-      rw length-set c.before.loop.invariant.2,
+      turn a.out.now c.before.loop-j.out a.q a.size a.value c.before.loop-j.j c.before.loop-j.invariant.1 (omega arith) (omega arith),
+      rw length-set c.before.loop-j.invariant.2,
     )
 
-same_length : tie.Need-same-length invariant-loop decreases-loop
+same_length : tie.Need-shape_of-out invariant-loop decreases-loop
 same_length c = omega arith
 
 returns : tie.Need-returns invariant-loop decreases-loop
 returns c =
     let a = c.before.before.args in
-    let e : c.before.loop.j ≡ a.size = omega arith in
+    let e : c.before.loop-j.j ≡ a.size = omega arith in
     let z : a.size - a.size ≡ 0 = omega arith in
-    c.before.loop.invariant.1 ∙ rw (e, z, div-one)
+    c.before.loop-j.invariant.1 ∙ rw (e, z, div-one)
 
 pub put_be_spec : {M : Type 1} → statement M
 put_be_spec =

@@ -9,42 +9,42 @@ use Rattle.common.proofs.Zeros.{zeros-none, zeros-turn}
 use Rattle.common.proofs.clear.clear_bytes.Statement.{statement}
 use Rattle.common.proofs.clear.clear_bytes.Tie as tie
 
-abbrev invariant-loop : tie.invariant-loop
+abbrev invariant-loop : tie.invariant-loop-j
 invariant-loop out₀ at n j₀ out j = (j ≤ n) × (length out ≡ length out₀) × (out ≡ over out₀ at (replicate j 0))
 
-abbrev decreases-loop : tie.decreases-loop
+abbrev decreases-loop : tie.decreases-loop-j
 decreases-loop out₀ at n j₀ out j = n - j
 
-loop-holds : tie.Need-loop-init invariant-loop decreases-loop
+loop-holds : tie.Need-loop-j-init invariant-loop decreases-loop
 loop-holds c = (omega arith, refl, zeros-none c.args.out.now c.args.at)
 
-add-out : tie.Need-overflow-add-out invariant-loop decreases-loop
+add-out : tie.Need-overflow_add-out invariant-loop decreases-loop
 add-out c = omega arith
 
-slice-write-out : tie.Need-slice-write-out invariant-loop decreases-loop
+slice-write-out : tie.Need-bounds-out-at invariant-loop decreases-loop
 slice-write-out c = omega arith
 
-add-j : tie.Need-overflow-add-j invariant-loop decreases-loop
+add-j : tie.Need-overflow_step-j invariant-loop decreases-loop
 add-j c = omega arith
 
-loop-less : tie.Need-loop-smaller invariant-loop decreases-loop
+loop-less : tie.Need-loop-j-smaller invariant-loop decreases-loop
 loop-less c = omega arith
 
-loop-again : tie.Need-loop-preserved invariant-loop decreases-loop
+loop-again : tie.Need-loop-j-preserved invariant-loop decreases-loop
 loop-again c =
-    let i = c.before.loop in (
+    let i = c.loop-j in (
       omega arith,
       rw length-set i.invariant.1,
-      zeros-turn c.before.before.args.out.now c.before.before.args.at i.j (omega arith) (omega arith) i.invariant.2,
+      zeros-turn c.args.out.now c.args.at i.j (omega arith) (omega arith) i.invariant.2,
     )
 
-same_length : tie.Need-same-length invariant-loop decreases-loop
-same_length c = c.before.loop.invariant.1
+same_length : tie.Need-shape_of-out invariant-loop decreases-loop
+same_length c = c.loop-j.invariant.1
 
 returns : tie.Need-returns invariant-loop decreases-loop
 returns c =
-    let e : c.before.loop.j ≡ c.before.before.args.n = omega arith in
-    rw e at c.before.loop.invariant.2
+    let e : c.loop-j.j ≡ c.args.n = omega arith in
+    rw e at c.loop-j.invariant.2
 
 pub clear_bytes_spec : {M : Type 1} → statement M
 clear_bytes_spec =

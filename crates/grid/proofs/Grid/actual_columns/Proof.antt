@@ -5,7 +5,7 @@ use Rattle.grid.proofs.Accepted.{facts, column-start}
 use Rattle.grid.proofs.Grid.actual_columns.Statement.{statement}
 use Rattle.grid.proofs.Grid.actual_columns.Tie as tie
 
-part-length-requires : tie.Need-part-length-requires
+part-length-requires : tie.Need-part_length-requires
 part-length-requires c κs = column-start c.args.self (facts _ c.requires.0) c.args.column c.requires.1
 
 returns : tie.Need-returns

@@ -5,7 +5,7 @@ use Rattle.grid.proofs.Accepted.{facts, row-start}
 use Rattle.grid.proofs.Grid.actual_rows.Statement.{statement}
 use Rattle.grid.proofs.Grid.actual_rows.Tie as tie
 
-part-length-requires : tie.Need-part-length-requires
+part-length-requires : tie.Need-part_length-requires
 part-length-requires c κs = row-start c.args.self (facts _ c.requires.0) c.args.row c.requires.1
 
 returns : tie.Need-returns

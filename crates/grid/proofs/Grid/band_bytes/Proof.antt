@@ -5,7 +5,7 @@ use Rattle.grid.proofs.Accepted.{answered}
 use Rattle.grid.proofs.Grid.band_bytes.Statement.{statement}
 use Rattle.grid.proofs.Grid.band_bytes.Tie as tie
 
-band-bytes-of-sides-requires : tie.Need-band-bytes-of-sides-requires
+band-bytes-of-sides-requires : tie.Need-band_bytes_of_sides-requires
 band-bytes-of-sides-requires c κs = let a = answered _ c.requires in (a.q1-yes, a.q2-yes)
 
 returns : tie.Need-returns

@@ -19,22 +19,22 @@ square c = prod_le _ _ _ _ (sides c).nppbh-le (sides c).nppbv-le
 whole : (c : tie.Start) → c.args.self.nppbh * c.args.self.nppbv * c.args.self.nbpp ≤ 99_999_999 * 99_999_999 * 64
 whole c = prod_le _ _ _ _ (square c) (sides c).nbpp-le
 
-cast-h : tie.Need-overflow-cast-h
+cast-h : tie.Need-overflow_cast-h
 cast-h c = search rules
 
-cast-v : tie.Need-overflow-cast-v
+cast-v : tie.Need-overflow_cast-v
 cast-v c = search rules
 
-cast-w : tie.Need-overflow-cast-w
+cast-w : tie.Need-overflow_cast-w
 cast-w c = search rules
 
-mul-result : tie.Need-overflow-mul-result
+mul-result : tie.Need-overflow_mul-result
 mul-result c = omega (arith, square c.before.before.before)
 
-mul-result-2 : tie.Need-overflow-mul-result-2
+mul-result-2 : tie.Need-overflow_mul-result-2
 mul-result-2 c = omega (arith, whole c.before.before.before)
 
-add-result : tie.Need-overflow-add-result
+add-result : tie.Need-overflow_add-result
 add-result c = omega (arith, whole c.before.before.before)
 
 returns : tie.Need-returns

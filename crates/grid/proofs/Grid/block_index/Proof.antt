@@ -6,15 +6,15 @@ use Rattle.grid.proofs.Accepted.{facts, index_lt}
 use Rattle.grid.proofs.Grid.block_index.Statement.{statement}
 use Rattle.grid.proofs.Grid.block_index.Tie as tie
 
-cast-result : tie.Need-overflow-cast-result
+cast-result : tie.Need-overflow_cast-result
 cast-result c = search rules
 
-mul-result : tie.Need-overflow-mul-result
+mul-result : tie.Need-overflow_mul-result
 mul-result c =
     let s = c.before in
     omega (arith, (facts _ s.requires.0).blocks-le, index_lt s.args.self s.args.row s.args.column s.requires.1)
 
-add-result : tie.Need-overflow-add-result
+add-result : tie.Need-overflow_add-result
 add-result c =
     let s = c.before in
     omega (arith, (facts _ s.requires.0).blocks-le, index_lt s.args.self s.args.row s.args.column s.requires.1)

@@ -16,20 +16,20 @@ use Rattle.grid.proofs.Grid.block_layout.Tie as tie
 first-is : (c : tie.After-pick)
     → let i = c.before.before in
     let b = i.before.before.before.before.before in
-    let a = b.before.args in
-    i.block-index.result * c.pick.result ≡ first_byte a.self.imode a.self (block_index a.self a.row a.column)
+    let a = b.args in
+    i.block_index.result * c.pick.result ≡ first_byte a.self.imode a.self (block_index a.self a.row a.column)
 first-is c =
     let i = c.before.before in
     let b = i.before.before.before.before.before in
     rw (
-      i.block-index.ensures,
+      i.block_index.ensures,
       c.pick.ensures,
-      c.before.block-bytes.ensures,
-      i.before.before.before.before.bands-apart.ensures,
-      b.band-bytes.ensures,
+      c.block_bytes.ensures,
+      i.bands_apart-apart.ensures,
+      b.band_bytes-t.ensures,
     )
 
-mul-first : tie.Need-overflow-mul-first
+mul-first : tie.Need-overflow_mul-first
 mul-first c =
     let i = c.before.before in
     let b = i.before.before.before.before.before in
@@ -38,13 +38,13 @@ mul-first c =
     let w = runs_in s.args.self.imode s.args.self f _ (index_lt _ _ _ s.requires.1) in
     rw (first-is c) (omega (arith, w.counted, f.image-le))
 
-mul-pick : tie.Need-overflow-mul-pick
+mul-pick : tie.Need-overflow_mul-blocks
 mul-pick c =
     let i = c.before.before.before in
     let b = i.before.before.before.before.before in
-    let f = facts _ b.before.requires.0 in
-    let g = b.before.args.self in
-    rw (c.blocks2.ensures, b.band-bytes.ensures) (omega (arith, f.image-le, mul-le-mul_left (blocks g * band_bytes g) f.sides.bands-pos))
+    let f = facts _ b.requires.0 in
+    let g = b.args.self in
+    rw (c.blocks-2.ensures, b.band_bytes-t.ensures) (omega (arith, f.image-le, mul-le-mul_left (blocks g * band_bytes g) f.sides.bands-pos))
 
 returns : tie.Need-returns
 returns c =
@@ -56,17 +56,17 @@ returns c =
     let t = w.before.before in
     rw (
       first-is p,
-      c.pick4.ensures,
-      c.before.held2.ensures,
-      c.before.before.pick3.ensures,
+      c.pick-run_columns.ensures,
+      c.held-2.ensures,
+      c.pick-run_rows.ensures,
       h.held.ensures,
-      n.pick2.ensures,
-      n.before.blocks2.ensures,
-      r.actual-columns.ensures,
-      r.before.actual-rows.ensures,
-      w.is-byte-multiple.ensures,
-      w.before.bands-apart.ensures,
-      t.band-bytes.ensures,
+      n.pick-next.ensures,
+      n.blocks-2.ensures,
+      r.actual_columns-columns.ensures,
+      r.actual_rows-rows.ensures,
+      w.is_byte_multiple-whole.ensures,
+      w.bands_apart-apart.ensures,
+      t.band_bytes-t.ensures,
     )
 
 pub block_layout_spec : {M : Type 1} → statement M

@@ -6,14 +6,14 @@ use Rattle.grid.proofs.Accepted.{facts}
 use Rattle.grid.proofs.Grid.blocks.Statement.{statement}
 use Rattle.grid.proofs.Grid.blocks.Tie as tie
 
-cast-result : tie.Need-overflow-cast-result
+cast-result : tie.Need-overflow_cast-result
 cast-result c = search rules
 
-cast-result-2 : tie.Need-overflow-cast-result-2
+cast-result-2 : tie.Need-overflow_cast-result-2
 cast-result-2 c = search rules
 
-mul-result : tie.Need-overflow-mul-result
-mul-result c = omega (arith, (facts _ c.before.before.requires).blocks-le)
+mul-result : tie.Need-overflow_mul-result
+mul-result c = omega (arith, (facts _ c.requires).blocks-le)
 
 returns : tie.Need-returns
 returns c = search rules

@@ -18,41 +18,41 @@ last : (g : Grid) → g.nbpr ≡ ceil_div g.ncols g.nppbh → g.nbpc ≡ ceil_di
 unfolding q3 every
 last g e f h = simp (eq-eqb _ _ e, eq-eqb _ _ f, le-leb _ _ h) (every-last _)
 
-ceil-div-requires : tie.Need-ceil-div-requires
+ceil-div-requires : tie.Need-ceil_div-requires
 ceil-div-requires c κs = search rules
 
-returns : tie.Need-returns
+returns : tie.Need-returns-then-self-ceil_div
 unfolding q3 every
-returns c = simp (ne_eqb _ _ (λ e. c.if1.true (e ∙ sym c.before.before.ceil-div.ensures)))
+returns c = simp (ne_eqb _ _ (λ e. c.if-self-ceil_div.true (e ∙ sym c.ceil_div.ensures)))
 
-ceil-div-requires-2 : tie.Need-ceil-div-requires-2
+ceil-div-requires-2 : tie.Need-ceil_div-requires-2
 ceil-div-requires-2 c κs = search rules
 
-returns-2 : tie.Need-returns-2
+returns-2 : tie.Need-returns-then-self-ceil_div-2
 unfolding q3 every
 returns-2 c =
     simp (
-      eq-eqb _ _ (c.before.before.before.if1.false ∙ c.before.before.before.before.before.ceil-div.ensures),
-      ne_eqb _ _ (λ e. c.if2.true (e ∙ sym c.before.before.ceil-div2.ensures)),
+      eq-eqb _ _ (c.if-self-ceil_div.false ∙ c.ceil_div.ensures),
+      ne_eqb _ _ (λ e. c.if-self-ceil_div-2.true (e ∙ sym c.ceil_div-2.ensures)),
     )
 
-returns-3 : tie.Need-returns-3
+returns-3 : tie.Need-returns-then-self-gt-MAX_BLOCKS
 unfolding q3 every
 returns-3 c =
     let down = c.before.before in
     let across = down.before.before.before in
     simp (
-      eq-eqb _ _ (across.if1.false ∙ across.before.before.ceil-div.ensures),
-      eq-eqb _ _ (down.if2.false ∙ down.before.before.ceil-div2.ensures),
-      lt-leb _ _ c.if3.true,
+      eq-eqb _ _ (across.if-self-ceil_div.false ∙ across.ceil_div.ensures),
+      eq-eqb _ _ (down.if-self-ceil_div-2.false ∙ down.ceil_div-2.ensures),
+      lt-leb _ _ c.if-self-gt-MAX_BLOCKS.true,
     )
 
-returns-4 : tie.Need-returns-4
+returns-4 : tie.Need-returns
 returns-4 c =
     let down = c.before.before.before in
     let across = down.before.before.before in
-    last _ (across.if1.false ∙ across.before.before.ceil-div.ensures) (down.if2.false ∙ down.before.before.ceil-div2.ensures)
-    c.before.if3.false
+    last _ (across.if-self-ceil_div.false ∙ across.ceil_div.ensures) (down.if-self-ceil_div-2.false ∙ down.ceil_div-2.ensures)
+    c.if-self-gt-MAX_BLOCKS.false
 
 pub blocks_fit_spec : {M : Type 1} → statement M
 blocks_fit_spec =

@@ -11,53 +11,53 @@ use Rattle.grid.proofs.Grid.check.Statement.{statement}
 use Rattle.grid.proofs.Grid.check.Tie as tie
 
 -- past question 2
-wide : (c : tie.Else2) → (q1 c.before.before.before.before.args.self ≡ true) × (width_taken c.before.before.before.before.args.self.nbpp ≡ true)
+wide : (c : tie.Else-width_bytes-eq0) → (q1 c.args.self ≡ true) × (width_taken c.args.self.nbpp ≡ true)
 wide c = (
-  yes c.before.before.before.sides-fit.ensures c.before.before.if1.false,
-  taken c.before.before.before.before.args.self.nbpp (λ e. c.if2.false (c.before.width-bytes.ensures ∙ e)),
+  yes c.sides_fit.ensures c.if-not-sides_fit.false,
+  taken c.args.self.nbpp (λ e. c.if-width_bytes-eq0.false (c.width_bytes.ensures ∙ e)),
 )
 
 -- past question 3
-counted : (c : tie.Else3)
+counted : (c : tie.Else-not-blocks_fit)
     → let sized = c.before.before in
-    let g = sized.before.before.before.before.args.self in (q1 g ≡ true) × (width_taken g.nbpp ≡ true) × (q3 g ≡ true)
-counted c = let w = wide c.before.before in (w.0, w.1, yes c.before.blocks-fit.ensures c.if3.false)
+    let g = sized.args.self in (q1 g ≡ true) × (width_taken g.nbpp ≡ true) × (q3 g ≡ true)
+counted c = let w = wide c.before.before in (w.0, w.1, yes c.blocks_fit.ensures c.if-not-blocks_fit.false)
 
-sides-fit-requires : tie.Need-sides-fit-requires
+sides-fit-requires : tie.Need-sides_fit-requires
 sides-fit-requires c κs = search rules
 
-returns : tie.Need-returns
+returns : tie.Need-returns-then-not-sides_fit
 unfolding grid_number
-returns c = simp (no c.before.sides-fit.ensures c.if1.true)
+returns c = simp (no c.sides_fit.ensures c.if-not-sides_fit.true)
 
-width-bytes-requires : tie.Need-width-bytes-requires
+width-bytes-requires : tie.Need-width_bytes-requires
 width-bytes-requires c κs = search rules
 
-returns-2 : tie.Need-returns-2
+returns-2 : tie.Need-returns-then-width_bytes-eq0
 unfolding grid_number
 returns-2 c =
     simp (
-      yes c.before.before.before.sides-fit.ensures c.before.before.if1.false,
-      refused c.before.before.before.before.args.self.nbpp (sym c.before.width-bytes.ensures ∙ c.if2.true),
+      yes c.sides_fit.ensures c.if-not-sides_fit.false,
+      refused c.args.self.nbpp (sym c.width_bytes.ensures ∙ c.if-width_bytes-eq0.true),
     )
 
-blocks-fit-requires : tie.Need-blocks-fit-requires
+blocks-fit-requires : tie.Need-blocks_fit-requires
 blocks-fit-requires c κs = search rules
 
-returns-3 : tie.Need-returns-3
+returns-3 : tie.Need-returns-then-not-blocks_fit
 unfolding grid_number
-returns-3 c = simp ((wide c.before.before).0, (wide c.before.before).1, no c.before.blocks-fit.ensures c.if3.true)
+returns-3 c = simp ((wide c.before.before).0, (wide c.before.before).1, no c.blocks_fit.ensures c.if-not-blocks_fit.true)
 
-image-fits-requires : tie.Need-image-fits-requires
-image-fits-requires c κs = ((wide c.before.before).0, (wide c.before.before).1, yes c.before.blocks-fit.ensures c.if3.false)
+image-fits-requires : tie.Need-image_fits-requires
+image-fits-requires c κs = ((wide c.before.before).0, (wide c.before.before).1, yes c.blocks_fit.ensures c.if-not-blocks_fit.false)
 
-returns-4 : tie.Need-returns-4
+returns-4 : tie.Need-returns-then-not-image_fits
 unfolding grid_number
-returns-4 c = simp ((counted c.before.before).0, (counted c.before.before).1, (counted c.before.before).2, no c.before.image-fits.ensures c.if4.true)
+returns-4 c = simp ((counted c.before.before).0, (counted c.before.before).1, (counted c.before.before).2, no c.image_fits.ensures c.if-not-image_fits.true)
 
-returns-5 : tie.Need-returns-5
+returns-5 : tie.Need-returns
 unfolding grid_number
-returns-5 c = simp ((counted c.before.before).0, (counted c.before.before).1, (counted c.before.before).2, yes c.before.image-fits.ensures c.if4.false)
+returns-5 c = simp ((counted c.before.before).0, (counted c.before.before).1, (counted c.before.before).2, yes c.image_fits.ensures c.if-not-image_fits.false)
 
 pub check_spec : {M : Type 1} → statement M
 check_spec =

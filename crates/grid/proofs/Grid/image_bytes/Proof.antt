@@ -9,20 +9,20 @@ use Rattle.grid.proofs.Grid.image_bytes.Tie as tie
 blocks-requires : tie.Need-blocks-requires
 blocks-requires c κs = search rules
 
-cast-result : tie.Need-overflow-cast-result
+cast-result : tie.Need-overflow_cast-result
 cast-result c = search rules
 
-mul-result : tie.Need-overflow-mul-result
-mul-result c = rw c.before.blocks2.ensures (omega (arith, (facts _ c.before.before.requires).slots_le))
+mul-result : tie.Need-overflow_mul-result
+mul-result c = rw c.blocks-2.ensures (omega (arith, (facts _ c.requires).slots_le))
 
-band-bytes-requires : tie.Need-band-bytes-requires
+band-bytes-requires : tie.Need-band_bytes-requires
 band-bytes-requires c κs = search rules
 
-mul-result-2 : tie.Need-overflow-mul-result-2
-mul-result-2 c = rw (c.before.before.blocks2.ensures, c.band-bytes.ensures) (omega (arith, (facts _ c.before.before.before.requires).image-le))
+mul-result-2 : tie.Need-overflow_mul-result-2
+mul-result-2 c = rw (c.blocks-2.ensures, c.band_bytes.ensures) (omega (arith, (facts _ c.requires).image-le))
 
 returns : tie.Need-returns
-returns c = rw (c.before.before.blocks2.ensures, c.band-bytes.ensures)
+returns c = rw (c.blocks-2.ensures, c.band_bytes.ensures)
 
 pub image_bytes_spec : {M : Type 1} → statement M
 image_bytes_spec =

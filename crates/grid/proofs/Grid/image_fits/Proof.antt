@@ -15,36 +15,36 @@ sides c = sized c.args.self c.requires.0 c.requires.1
 counts : (c : tie.Start) → Counted c.args.self
 counts c = counted c.args.self c.requires.2
 
-band-bytes-of-sides-requires : tie.Need-band-bytes-of-sides-requires
+band-bytes-of-sides-requires : tie.Need-band_bytes_of_sides-t-requires
 band-bytes-of-sides-requires c κs = search rules
 
-cast-across : tie.Need-overflow-cast-across
+cast-across : tie.Need-overflow_cast-across
 cast-across c = search rules
 
-cast-down : tie.Need-overflow-cast-down
+cast-down : tie.Need-overflow_cast-down
 cast-down c = search rules
 
-cast-bands : tie.Need-overflow-cast-bands
+cast-bands : tie.Need-overflow_cast-bands
 cast-bands c = search rules
 
-mul-result : tie.Need-overflow-mul-result
+mul-result : tie.Need-overflow_mul-result
 mul-result c = omega (arith, blocks-top _ (counts c.before.before.before.before))
 
-mul-result-2 : tie.Need-overflow-mul-result-2
+mul-result-2 : tie.Need-overflow_mul-result-2
 mul-result-2 c =
     let s = c.before.before.before.before in
     omega (arith, slots_top _ (sides s) (counts s))
 
-div-result : tie.Need-nonzero-div-result
+div-result : tie.Need-nonzero_div-result
 div-result c =
     let s = c.before.before.before.before in
-    omega (arith, c.before.before.before.band-bytes-of-sides.ensures, band-some _ (sides s))
+    omega (arith, c.band_bytes_of_sides-t.ensures, band-some _ (sides s))
 
 returns : tie.Need-returns
 unfolding q4
 returns c =
     let s = c.before.before.before.before in
-    rw c.before.before.before.band-bytes-of-sides.ensures (leb_div _ _ (band_bytes s.args.self) (band-some _ (sides s)))
+    rw c.band_bytes_of_sides-t.ensures (leb_div _ _ (band_bytes s.args.self) (band-some _ (sides s)))
 
 pub image_fits_spec : {M : Type 1} → statement M
 image_fits_spec =

@@ -9,49 +9,49 @@ use Rattle.common.proofs.Tests.{every-last}
 use Rattle.grid.proofs.Grid.sides_fit.Statement.{statement}
 use Rattle.grid.proofs.Grid.sides_fit.Tie as tie
 
-returns : tie.Need-returns
+returns : tie.Need-returns-then-not-within
 unfolding q1 every
-returns c = simp (no c.before.within.ensures c.if1.true)
+returns c = simp (no c.within.ensures c.if-not-within.true)
 
-returns-2 : tie.Need-returns-2
+returns-2 : tie.Need-returns-then-not-within-2
 unfolding q1 every
-returns-2 c = simp (yes c.before.before.before.within.ensures c.before.before.if1.false, no c.before.within2.ensures c.if2.true)
+returns-2 c = simp (yes c.within.ensures c.if-not-within.false, no c.within-2.ensures c.if-not-within-2.true)
 
-returns-3 : tie.Need-returns-3
+returns-3 : tie.Need-returns-then-not-block_side_fits
 unfolding q1 every
 returns-3 c =
     simp (
-      yes c.before.before.before.before.before.within.ensures c.before.before.before.before.if1.false,
-      yes c.before.before.before.within2.ensures c.before.before.if2.false,
-      no c.before.block-side-fits.ensures c.if3.true,
+      yes c.within.ensures c.if-not-within.false,
+      yes c.within-2.ensures c.if-not-within-2.false,
+      no c.block_side_fits.ensures c.if-not-block_side_fits.true,
     )
 
-returns-4 : tie.Need-returns-4
+returns-4 : tie.Need-returns-then-not-block_side_fits-2
 unfolding q1 every
 returns-4 c =
     let third = c.before.before in
     let second = third.before.before in
     let first = second.before.before in
     simp (
-      yes first.before.within.ensures first.if1.false,
-      yes second.before.within2.ensures second.if2.false,
-      yes third.before.block-side-fits.ensures third.if3.false,
-      no c.before.block-side-fits2.ensures c.if4.true,
+      yes first.within.ensures first.if-not-within.false,
+      yes second.within-2.ensures second.if-not-within-2.false,
+      yes third.block_side_fits.ensures third.if-not-block_side_fits.false,
+      no c.block_side_fits-2.ensures c.if-not-block_side_fits-2.true,
     )
 
-returns-5 : tie.Need-returns-5
+returns-5 : tie.Need-returns
 unfolding q1 every
 returns-5 c =
     let third = c.before.before.before in
     let second = third.before.before in
     let first = second.before.before in
     simp (
-      yes first.before.within.ensures first.if1.false,
-      yes second.before.within2.ensures second.if2.false,
-      yes third.before.block-side-fits.ensures third.if3.false,
-      yes c.before.before.block-side-fits2.ensures c.before.if4.false,
+      yes first.within.ensures first.if-not-within.false,
+      yes second.within-2.ensures second.if-not-within-2.false,
+      yes third.block_side_fits.ensures third.if-not-block_side_fits.false,
+      yes c.block_side_fits-2.ensures c.if-not-block_side_fits-2.false,
     )
-    (c.within3.ensures ∙ every-last _)
+    (c.within-3.ensures ∙ every-last _)
 
 pub sides_fit_spec : {M : Type 1} → statement M
 sides_fit_spec =

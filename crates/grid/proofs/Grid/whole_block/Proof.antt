@@ -7,19 +7,19 @@ use Rattle.grid.proofs.Accepted.{facts, block-end-le}
 use Rattle.grid.proofs.Grid.whole_block.Statement.{statement}
 use Rattle.grid.proofs.Grid.whole_block.Tie as tie
 
-bands-apart-requires : tie.Need-bands-apart-requires
+bands-apart-requires : tie.Need-bands_apart-apart-requires
 bands-apart-requires c κs = search rules
 
-block-bytes-requires : tie.Need-block-bytes-requires
+block-bytes-requires : tie.Need-block_bytes-size-requires
 block-bytes-requires c κs = search rules
 
-block-index-requires : tie.Need-block-index-requires
+block-index-requires : tie.Need-block_index-requires
 block-index-requires c κs = search rules
 
-mul-pick : tie.Need-overflow-mul-pick
+mul-pick : tie.Need-overflow_mul-block_index
 mul-pick c =
     let s = c.before.before.before in
-    rw (c.block-index.ensures, c.before.block-bytes.ensures)
+    rw (c.block_index.ensures, c.block_bytes-size.ensures)
     (omega (arith, block-end-le _ _ _ s.requires.1, (facts _ s.requires.0).image-le))
 
 pick-requires : tie.Need-pick-requires
@@ -32,7 +32,7 @@ returns : tie.Need-returns
 unfolding whole_start whole_length
 returns c =
     let i = c.before.before in
-    rw (c.pick2.ensures, c.before.pick.ensures, i.block-index.ensures, i.before.block-bytes.ensures, i.before.before.bands-apart.ensures)
+    rw (c.pick-2.ensures, c.pick.ensures, i.block_index.ensures, i.block_bytes-size.ensures, i.bands_apart-apart.ensures)
 
 pub whole_block_spec : {M : Type 1} → statement M
 whole_block_spec =

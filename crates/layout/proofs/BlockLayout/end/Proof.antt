@@ -19,41 +19,41 @@ packed : (l : BlockLayout) → (l.nbpp % 8 ≡ 0 → ⊥) → l.first + (l.bands
 unfolding block_end
 packed l e = rw (ne_eqb (l.nbpp % 8) 0 e)
 
-cast-last : tie.Need-overflow-cast-last
+cast-last : tie.Need-overflow_cast-last
 cast-last c = search rules
 
-sub-last : tie.Need-overflow-sub-last
+sub-last : tie.Need-overflow_sub-last
 sub-last c = search rules
 
-sub-r : tie.Need-overflow-sub-r
+sub-r : tie.Need-overflow_sub-r
 sub-r c = search rules
 
-sub-c : tie.Need-overflow-sub-c
+sub-c : tie.Need-overflow_sub-c
 sub-c c = search rules
 
-sample-place-requires : tie.Need-sample-place-requires
+sample-place-requires : tie.Need-sample_place-requires
 sample-place-requires c κs = search rules
 
-sample-bytes-requires : tie.Need-sample-bytes-requires
+sample-bytes-requires : tie.Need-sample_bytes-requires
 sample-bytes-requires c κs = search rules
 
-add-result : tie.Need-overflow-add-result
+add-result : tie.Need-overflow_add-result
 add-result c = search rules
 
-mul-result : tie.Need-overflow-mul-result
-mul-result c = omega (arith, (sizes _ c.before.before.before.before.requires).last-le)
+mul-result : tie.Need-overflow_mul-result
+mul-result c = omega (arith, (sizes _ c.requires).last-le)
 
-add-result-2 : tie.Need-overflow-add-result-2
-add-result-2 c = omega (arith, (sizes _ c.before.before.before.before.before.requires).last-le)
+add-result-2 : tie.Need-overflow_add-result-else-self-eq0
+add-result-2 c = omega (arith, (sizes _ c.requires).last-le)
 
-add-result-3 : tie.Need-overflow-add-result-3
-add-result-3 c = omega (arith, (sizes _ c.before.before.before.before.before.before.requires).last-le)
+add-result-3 : tie.Need-overflow_add-result-else-self-eq0-2
+add-result-3 c = omega (arith, (sizes _ c.requires).last-le)
 
-returns : tie.Need-returns
-returns c = rw (c.before.sample-place.ensures, c.sample-bytes.ensures) (whole _ c.before.before.before.before.if1.true)
+returns : tie.Need-returns-then-self-eq0
+returns c = rw (c.sample_place.ensures, c.sample_bytes.ensures) (whole _ c.if-self-eq0.true)
 
-returns-2 : tie.Need-returns-2
-returns-2 c = packed _ c.before.before.before.if1.false
+returns-2 : tie.Need-returns-else-self-eq0
+returns-2 c = packed _ c.if-self-eq0.false
 
 pub end_spec : {M : Type 1} → statement M
 end_spec =

@@ -30,39 +30,39 @@ unfolding some
 by_mode w true e f = rw e (sym f)
 by_mode w false e f = rw e (sym f)
 
-cast-bits : tie.Need-overflow-cast-bits
+cast-bits : tie.Need-overflow_cast-bits
 cast-bits c = search rules
 
-mul-if1 : tie.Need-overflow-mul-if1
-mul-if1 c = omega (arith, (sizes _ c.before.before.requires).apart-le)
+mul-if1 : tie.Need-overflow_mul-self
+mul-if1 c = omega (arith, (sizes _ c.requires).apart-le)
 
-mul-if1-2 : tie.Need-overflow-mul-if1-2
-mul-if1-2 c = omega (arith, (sizes _ c.before.before.before.requires).run_le)
+mul-if1-2 : tie.Need-overflow_mul-self-2
+mul-if1-2 c = omega (arith, (sizes _ c.requires).run_le)
 
-mul-if1-3 : tie.Need-overflow-mul-if1-3
-mul-if1-3 c = omega (arith, (sizes _ c.before.before.before.requires).run_bits)
+mul-if1-3 : tie.Need-overflow_mul-self-3
+mul-if1-3 c = omega (arith, (sizes _ c.requires).run_bits)
 
-returns : tie.Need-returns
+returns : tie.Need-returns-then-self-bits
 unfolding has_strides some
-returns c = rw (eq-eqb _ _ c.if1.true)
+returns c = rw (eq-eqb _ _ c.if-self-bits.true)
 
-enum_told : tie.Need-enum-told
+enum_told : tie.Need-enum_told-1
 enum_told c = search rules
 
-enum-told-2 : tie.Need-enum-told-2
+enum-told-2 : tie.Need-enum_told-in-R
 enum-told-2 c = search rules
 
-returns-2 : tie.Need-returns-2
+returns-2 : tie.Need-returns-in-P
 unfolding has_strides
-returns-2 c = by_mode _ _ (ne_eqb _ _ c.before.before.if1.false) (ap own_runs c.enum_told.given.1)
+returns-2 c = by_mode _ _ (ne_eqb _ _ c.if-self-bits.false) (ap own_runs c.in-P.is)
 
-returns-3 : tie.Need-returns-3
+returns-3 : tie.Need-returns-in-R
 unfolding has_strides
-returns-3 c = by_mode _ _ (ne_eqb _ _ c.before.before.if1.false) (ap own_runs c.enum-told2.given.1)
+returns-3 c = by_mode _ _ (ne_eqb _ _ c.if-self-bits.false) (ap own_runs c.in-R.is)
 
-returns-4 : tie.Need-returns-4
+returns-4 : tie.Need-returns-in_default
 unfolding has_strides
-returns-4 c = by_mode _ _ (ne_eqb _ _ c.before.if1.false) (even c.before.before.before.before.before.args.self.mode c.match.keys3)
+returns-4 c = by_mode _ _ (ne_eqb _ _ c.if-self-bits.false) (even c.args.self.mode c.in_default.in_default-own.keys3)
 
 pub has_strides_spec : {M : Type 1} → statement M
 has_strides_spec =

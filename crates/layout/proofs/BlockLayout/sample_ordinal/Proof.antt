@@ -35,50 +35,50 @@ fits m s =
     (ordinal_lt m a.self.bands a.self.run_rows a.self.run_columns a.b a.r a.c s.requires.0.0 s.requires.0.1 s.requires.0.2)
     (omega (arith, s.requires.1))
 
-cast-bands : tie.Need-overflow-cast-bands
+cast-bands : tie.Need-overflow_cast-bands
 cast-bands c = search rules
 
-enum_told : tie.Need-enum-told
+enum_told : tie.Need-enum_told-1
 enum_told c = search rules
 
-times-plus-requires : tie.Need-times-plus-requires
+times-plus-requires : tie.Need-times_plus-requires
 times-plus-requires c κs =
-    let s = c.before.before.before in
+    let s = c.before.before in
     part-fits _ s.args.self.bands s.args.b _ (omega (arith, s.requires.0.0)) (fits P s)
 
-times-plus-requires-2 : tie.Need-times-plus-requires-2
-times-plus-requires-2 c κs = rw c.times-plus.ensures (fits P c.before.before.before.before)
+times-plus-requires-2 : tie.Need-times_plus-requires-in-P
+times-plus-requires-2 c κs = rw c.times_plus.ensures (fits P c.before.before.before)
 
-enum-told-2 : tie.Need-enum-told-2
+enum-told-2 : tie.Need-enum_told-in-R
 enum-told-2 c = search rules
 
-times-plus-requires-3 : tie.Need-times-plus-requires-3
+times-plus-requires-3 : tie.Need-times_plus-requires-in-R
 times-plus-requires-3 c κs =
-    let s = c.before.before.before in
+    let s = c.before.before in
     part-fits _ s.args.self.run_columns s.args.c _ (omega (arith, s.requires.0.2)) (fits R s)
 
-times-plus-requires-4 : tie.Need-times-plus-requires-4
-times-plus-requires-4 c κs = rw c.times-plus3.ensures (fits R c.before.before.before.before)
+times-plus-requires-4 : tie.Need-times_plus-requires-in-R-2
+times-plus-requires-4 c κs = rw c.times_plus-in-R.ensures (fits R c.before.before.before)
 
-times-plus-requires-5 : tie.Need-times-plus-requires-5
+times-plus-requires-5 : tie.Need-times_plus-requires-in_default
 times-plus-requires-5 c κs =
     let s = c.before.before in
     part-fits _ s.args.self.run_columns s.args.c _ (omega (arith, s.requires.0.2)) (fits B s)
 
-times-plus-requires-6 : tie.Need-times-plus-requires-6
-times-plus-requires-6 c κs = rw c.times-plus5.ensures (fits B c.before.before.before)
+times-plus-requires-6 : tie.Need-times_plus-requires-in_default-2
+times-plus-requires-6 c κs = rw c.times_plus-in_default.ensures (fits B c.before.before.before)
 
-returns : tie.Need-returns
-returns c = rw (c.times-plus2.ensures, c.before.times-plus.ensures, c.before.before.enum_told.given.1)
+returns : tie.Need-returns-in-P
+returns c = rw (c.times_plus-in-P.ensures, c.times_plus.ensures, c.in-P.is)
 
-returns-2 : tie.Need-returns-2
-returns-2 c = rw (c.times-plus4.ensures, c.before.times-plus3.ensures, c.before.before.enum-told2.given.1)
+returns-2 : tie.Need-returns-in-R
+returns-2 c = rw (c.times_plus-in-R-2.ensures, c.times_plus-in-R.ensures, c.in-R.is)
 
-returns-3 : tie.Need-returns-3
+returns-3 : tie.Need-returns-in_default
 returns-3 c =
-    let a = c.before.before.before.before.args in
-    rw (c.times-plus6.ensures, c.before.times-plus5.ensures)
-    (other a.self.mode a.self.bands a.self.run_rows a.self.run_columns a.b a.r a.c c.before.before.match.keys3)
+    let a = c.args in
+    rw (c.times_plus-in_default-2.ensures, c.times_plus-in_default.ensures)
+    (other a.self.mode a.self.bands a.self.run_rows a.self.run_columns a.b a.r a.c c.in_default.in_default-own.keys3)
 
 pub sample_ordinal_spec : {M : Type 1} → statement M
 sample_ordinal_spec =

@@ -17,10 +17,10 @@ bit_le : (l : BlockLayout) → Sound l → (b r c : ℕ) → Sample l b r c
 unfolding place
 bit_le l f b r c t = place-le l f b r c t
 
-fits : (c : tie.After-sample-ordinal)
-    → let l = c.before.args.self in
-    8 * (l.first + c.sample-ordinal.result / run_size l * l.apart) + c.sample-ordinal.result % run_size l * l.nbpp + l.nbpp ≤ 576_460_752_303_423_488
-fits c = let s = c.before in rw c.sample-ordinal.ensures (bit_le s.args.self s.requires.0 s.args.b s.args.r s.args.c s.requires.1)
+fits : (c : tie.After-sample_ordinal-n)
+    → let l = c.args.self in
+    8 * (l.first + c.sample_ordinal-n.result / run_size l * l.apart) + c.sample_ordinal-n.result % run_size l * l.nbpp + l.nbpp ≤ 576_460_752_303_423_488
+fits c = let s = c.before in rw c.sample_ordinal-n.ensures (bit_le s.args.self s.requires.0 s.args.b s.args.r s.args.c s.requires.1)
 
 is : (l : BlockLayout) (b r c : ℕ)
     → 8 * (l.first + ordinal_in l b r c / run_size l * l.apart) + ordinal_in l b r c % run_size l * l.nbpp ≡ place l b r c
@@ -30,40 +30,40 @@ is l b r c = refl
 known : (s : tie.Start) → RunPlace s.args.self s.args.b s.args.r s.args.c
 known s = run_place s.args.self s.requires.0 s.args.b s.args.r s.args.c s.requires.1
 
-sample-ordinal-requires : tie.Need-sample-ordinal-requires
+sample-ordinal-requires : tie.Need-sample_ordinal-n-requires
 sample-ordinal-requires c κs = let k = known c in ((c.requires.1.in_b, k.r_lt, k.c_lt), omega (arith, (sizes _ c.requires.0).block-le))
 
-mul-size : tie.Need-overflow-mul-size
-mul-size c = omega (arith, (sizes _ c.before.before.requires.0).run_le)
+mul-size : tie.Need-overflow_mul-size
+mul-size c = omega (arith, (sizes _ c.requires.0).run_le)
 
-cast-bits : tie.Need-overflow-cast-bits
+cast-bits : tie.Need-overflow_cast-bits
 cast-bits c = search rules
 
-div-byte : tie.Need-nonzero-div-byte
+div-byte : tie.Need-nonzero_div-byte
 div-byte c = (known c.before.before.before).size-pos
 
-mul-byte : tie.Need-overflow-mul-byte
+mul-byte : tie.Need-overflow_mul-byte
 mul-byte c = omega (arith, fits c.before.before.before)
 
-add-byte : tie.Need-overflow-add-byte
+add-byte : tie.Need-overflow_add-byte
 add-byte c = omega (arith, fits c.before.before.before.before)
 
-mul-result : tie.Need-overflow-mul-result
+mul-result : tie.Need-overflow_mul-result
 mul-result c = omega (arith, fits c.before.before.before.before)
 
-rem-result : tie.Need-nonzero-rem-result
+rem-result : tie.Need-nonzero_rem-result
 rem-result c = (known c.before.before.before.before.before).size-pos
 
-mul-result-2 : tie.Need-overflow-mul-result-2
+mul-result-2 : tie.Need-overflow_mul-result-2
 mul-result-2 c = omega (arith, fits c.before.before.before.before)
 
-add-result : tie.Need-overflow-add-result
+add-result : tie.Need-overflow_add-result
 add-result c = omega (arith, fits c.before.before.before.before)
 
 returns : tie.Need-returns
 returns c =
     let s = c.before.before.before.before.before in
-    rw c.before.before.before.before.sample-ordinal.ensures (is s.args.self s.args.b s.args.r s.args.c)
+    rw c.sample_ordinal-n.ensures (is s.args.self s.args.b s.args.r s.args.c)
 
 pub sample_place_spec : {M : Type 1} → statement M
 sample_place_spec =

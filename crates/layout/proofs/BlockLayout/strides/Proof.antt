@@ -10,56 +10,56 @@ use native.Mathlib.Omega.{arith}
 known : (s : tie.Start) → StridesFit s.args.self
 known s = strides_fit s.args.self s.requires
 
-cast-width : tie.Need-overflow-cast-width
+cast-width : tie.Need-overflow_cast-width
 cast-width c = search rules
 
-mul-line : tie.Need-overflow-mul-line
+mul-line : tie.Need-overflow_mul-line
 mul-line c = omega (arith, (known c.before.before).line)
 
-cast-pixel : tie.Need-overflow-cast-pixel
+cast-pixel : tie.Need-overflow_cast-pixel
 cast-pixel c = search rules
 
-mul-pixel : tie.Need-overflow-mul-pixel
+mul-pixel : tie.Need-overflow_mul-pixel
 mul-pixel c = omega (arith, (known c.before.before.before).pixel)
 
-enum_told : tie.Need-enum-told
+enum_told : tie.Need-enum_told-1
 enum_told c = search rules
 
-mul-t8 : tie.Need-overflow-mul-t8
-mul-t8 c = omega (arith, (sizes _ c.before.before.before.before.before.before.requires).apart-le)
+mul-t8 : tie.Need-overflow_mul-result
+mul-t8 c = omega (arith, (sizes _ c.requires).apart-le)
 
-enum-told-2 : tie.Need-enum-told-2
+enum-told-2 : tie.Need-enum_told-in-P
 enum-told-2 c = search rules
 
-mul-t9 : tie.Need-overflow-mul-t9
-mul-t9 c = omega (arith, (known c.before.before.before.before.before.before).pixels)
+mul-t9 : tie.Need-overflow_mul-result-in-P
+mul-t9 c = omega (arith, (known c.before.before.before.before.before).pixels)
 
-enum-told-3 : tie.Need-enum-told-3
+enum-told-3 : tie.Need-enum_told-in-R
 enum-told-3 c = search rules
 
-cast-t10 : tie.Need-overflow-cast-t10
+cast-t10 : tie.Need-overflow_cast-result
 cast-t10 c = search rules
 
-mul-t11 : tie.Need-overflow-mul-t11
-mul-t11 c = omega (arith, (known c.before.before.before.before.before.before).lines)
+mul-t11 : tie.Need-overflow_mul-result-in-R
+mul-t11 c = omega (arith, (known c.before.before.before.before.before).lines)
 
-enum-told-4 : tie.Need-enum-told-4
+enum-told-4 : tie.Need-enum_told-in-S
 enum-told-4 c = search rules
 
-mul-t12 : tie.Need-overflow-mul-t12
-mul-t12 c = omega (arith, (sizes _ c.before.before.before.before.before.before.requires).apart-le)
+mul-t12 : tie.Need-overflow_mul-result-in-S
+mul-t12 c = omega (arith, (sizes _ c.requires).apart-le)
 
-returns : tie.Need-returns
-returns c = rw c.before.enum_told.given.1
+returns : tie.Need-returns-in-B
+returns c = rw c.in-B.is
 
-returns-2 : tie.Need-returns-2
-returns-2 c = rw c.before.enum-told2.given.1
+returns-2 : tie.Need-returns-in-P
+returns-2 c = rw c.in-P.is
 
-returns-3 : tie.Need-returns-3
-returns-3 c = rw c.before.enum-told3.given.1
+returns-3 : tie.Need-returns-in-R
+returns-3 c = rw c.in-R.is
 
-returns-4 : tie.Need-returns-4
-returns-4 c = rw c.before.enum-told4.given.1
+returns-4 : tie.Need-returns-in-S
+returns-4 c = rw c.in-S.is
 
 pub strides_spec : {M : Type 1} → statement M
 strides_spec =

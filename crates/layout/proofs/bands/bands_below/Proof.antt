@@ -13,53 +13,53 @@ use Rattle.common.proofs.Tests.{pick_yes, pick_no, below_next, below_fails}
 use Rattle.layout.proofs.bands.bands_below.Statement.{statement}
 use Rattle.layout.proofs.bands.bands_below.Tie as tie
 
-abbrev invariant-loop : tie.invariant-loop
+abbrev invariant-loop : tie.invariant-loop-k
 invariant-loop bands all list k₀ k-end k = (k ≤ length list) × (k-end ≡ length list) × (all ≡ false) × (all_below k (λ j. ltb (get_or list j 0) bands) ≡ true)
 
-abbrev decreases-loop : tie.decreases-loop
+abbrev decreases-loop : tie.decreases-loop-k
 decreases-loop bands all list k₀ k-end k = length list - k
 
-returns : tie.Need-returns invariant-loop decreases-loop
+returns : tie.Need-returns-then-all invariant-loop decreases-loop
 unfolding q8
-returns c = sym (pick_yes _ _ c.if1.true)
+returns c = sym (pick_yes _ _ c.if-all.true)
 
-loop-holds : tie.Need-loop-init invariant-loop decreases-loop
+loop-holds : tie.Need-loop-k-init invariant-loop decreases-loop
 unfolding all_below
-loop-holds c = (omega arith, refl, c.if1.false, refl)
+loop-holds c = (omega arith, refl, c.if-all.false, refl)
 
-mul-if2 : tie.Need-overflow-mul-if2 invariant-loop decreases-loop
+mul-if2 : tie.Need-offset_bounds-list-k invariant-loop decreases-loop
 mul-if2 c = omega arith
 
-shared-slice-read-if2 : tie.Need-shared-slice-read-if2 invariant-loop decreases-loop
+shared-slice-read-if2 : tie.Need-bounds-list-k invariant-loop decreases-loop
 shared-slice-read-if2 c = omega arith
 
-returns-2 : tie.Need-returns-2 invariant-loop decreases-loop
+returns-2 : tie.Need-returns-then-list-k invariant-loop decreases-loop
 unfolding q8
 returns-2 c =
-    let a = c.before.before.before.before.before.args in
-    sym (pick_no _ _ c.before.before.before.loop.invariant.2 ∙ below_fails _ (λ j. ltb (get_or a.list.now j 0) a.bands) c.before.before.before.loop.k (omega arith) (le-ltb _ _ c.if2.true))
+    let a = c.args in
+    sym (pick_no _ _ c.loop-k.invariant.2 ∙ below_fails _ (λ j. ltb (get_or a.list.now j 0) a.bands) c.loop-k.k (omega arith) (le-ltb _ _ c.if-list-k.true))
 
-add-k : tie.Need-overflow-add-k invariant-loop decreases-loop
+add-k : tie.Need-overflow_step-k invariant-loop decreases-loop
 add-k c = omega arith
 
-loop-less : tie.Need-loop-smaller invariant-loop decreases-loop
+loop-less : tie.Need-loop-k-smaller invariant-loop decreases-loop
 loop-less c = omega arith
 
-loop-again : tie.Need-loop-preserved invariant-loop decreases-loop
+loop-again : tie.Need-loop-k-preserved invariant-loop decreases-loop
 loop-again c =
-    let a = c.before.before.before.before.before.args in (
+    let a = c.args in (
       omega arith,
       refl,
-      c.before.before.before.loop.invariant.2,
-      below_next _ (λ j. ltb (get_or a.list.now j 0) a.bands) c.before.before.before.loop.invariant.3 (lt-ltb _ _ c.if2.false),
+      c.loop-k.invariant.2,
+      below_next _ (λ j. ltb (get_or a.list.now j 0) a.bands) c.loop-k.invariant.3 (lt-ltb _ _ c.if-list-k.false),
     )
 
-returns-3 : tie.Need-returns-3 invariant-loop decreases-loop
+returns-3 : tie.Need-returns invariant-loop decreases-loop
 unfolding q8
 returns-3 c =
-    let a = c.before.before.before.args in
-    let e : c.before.loop.k ≡ length a.list.now = omega arith in
-    sym (pick_no _ _ c.before.loop.invariant.2 ∙ ap (λ (n : ℕ). all_below n (λ j. ltb (get_or a.list.now j 0) a.bands)) (sym e) ∙ c.before.loop.invariant.3)
+    let a = c.args in
+    let e : c.loop-k.k ≡ length a.list.now = omega arith in
+    sym (pick_no _ _ c.loop-k.invariant.2 ∙ ap (λ (n : ℕ). all_below n (λ j. ltb (get_or a.list.now j 0) a.bands)) (sym e) ∙ c.loop-k.invariant.3)
 
 pub bands_below_spec : {M : Type 1} → statement M
 bands_below_spec =

@@ -4,7 +4,7 @@ use borrow.Author.Rules.{rules}
 use Prim.Native.Nat.{◌+◌, ◌*◌, ◌≤◌}
 use native.Mathlib.Omega.{arith}
 use Rattle.mask.specs.Table.{table_size}
-use Rattle.mask.proofs.Fields.{record_bytes_le}
+use Rattle.mask.proofs.Fields.{record_bytes-le}
 use Rattle.mask.proofs.ImageDataMask.table_bytes.Statement.{statement}
 use Rattle.mask.proofs.ImageDataMask.table_bytes.Tie as tie
 
@@ -15,7 +15,7 @@ fits : (c : tie.After-record-count)
     ≤ 9_997_900_119_999 * 131_070
 fits c =
     let s = c.before.before.before.before in
-    record_bytes_le _ _ _ _ s.requires c.record-count.ensures (omega arith) (omega arith)
+    record_bytes-le _ _ _ _ s.requires c.record-count.ensures (omega arith) (omega arith)
 
 cast-block : tie.Need-overflow-cast-block
 cast-block c = search rules

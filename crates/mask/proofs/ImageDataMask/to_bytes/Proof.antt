@@ -6,7 +6,7 @@ use native.Mathlib.Omega.{arith}
 use lib.ListN.{length}
 use Rattle.common.proofs.Questions.{refused-by}
 use Rattle.mask.specs.Mask.{mask_write_number, not_written, written_with, to_bytes}
-use Rattle.mask.proofs.Numbers.{MaskWrite, mask_write_facts}
+use Rattle.mask.proofs.Numbers.{MaskWrite, mask_write-facts}
 use Rattle.mask.proofs.TableWrites.{table-room, table-put}
 use Rattle.mask.proofs.ImageDataMask.to_bytes.Statement.{statement}
 use Rattle.mask.proofs.ImageDataMask.to_bytes.Tie as tie
@@ -24,7 +24,7 @@ facts : (c : tie.Else1)
     let n = length a.block-offsets.now in
     let m = length a.pad-pixel-offsets.now in
     MaskWrite a.grid a.self n m (length a.out.now)
-facts c = mask_write_facts _ _ _ _ _ (zero c)
+facts c = mask_write-facts _ _ _ _ _ (zero c)
 
 -- from each call that puts to what was before it
 abbrev accepted-before : tie.After-code-bytes → tie.Else1

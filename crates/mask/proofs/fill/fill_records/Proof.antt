@@ -42,8 +42,8 @@ loop-holds c = (omega arith, tabulate-none _ _, refl)
 filled-block-requires : tie.Need-filled-block-requires invariant-loop decreases-loop
 filled-block-requires c κs = (start c.before).pre.0
 
-is_marked_requires : tie.Need-is-marked-requires invariant-loop decreases-loop
-is_marked_requires c κs =
+is-marked_requires : tie.Need-is-marked-requires invariant-loop decreases-loop
+is-marked_requires c κs =
     let s = start c.before.before in
     rw c.filled-block.ensures (omega (arith, filled_lt _ _ s.pre.0 (in_table c.before).0))
 
@@ -97,7 +97,7 @@ fill_records_spec =
     record-count-requires
     loop-holds
     filled-block-requires
-    is_marked_requires
+    is-marked_requires
     mul-out
     slice-write-out
     mul-out-2

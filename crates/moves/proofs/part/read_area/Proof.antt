@@ -11,7 +11,7 @@ use Rattle.moves.specs.declared.order.Way.{Way}
 use Rattle.moves.specs.declared.order.Way.TheVariants.{Rows, Pixels, Runs}
 use Rattle.moves.specs.Internal.Orders.{WayFits}
 use Rattle.moves.proofs.ReadPieces.{listed-count}
-use Rattle.moves.proofs.Orders.{bands-inside, bands_at_once}
+use Rattle.moves.proofs.Orders.{bands-inside, bands-at_once}
 use Rattle.moves.proofs.part.read_area.Statement.{statement}
 use Rattle.moves.proofs.part.read_area.Tie as tie
 
@@ -74,7 +74,7 @@ returns-2 c =
     let s = told.before.before.before.before.before in
     let h = listed s told.enum-told2.given.1 in
     let n = sym (listed-count s.args.layout.bands s.args.bands.now) in
-    rw h.0 (bands_at_once _ _ n c.before.before.read-pixels.ensures)
+    rw h.0 (bands-at_once _ _ n c.before.before.read-pixels.ensures)
 
 same-length-3 : tie.Need-same-length-3
 same-length-3 c = search rules
