@@ -7,7 +7,7 @@ use borrow.Author.Rules.{rules}
 use Rattle.samples.proofs.pack.append.Statement.{statement}
 use Rattle.samples.proofs.pack.append.Tie as tie
 
-shl-result : tie.Need-overflow-shl-result
+shl-result : tie.Need-overflow_shl-result
 shl-result c = search rules
 
 returns : tie.Need-returns

@@ -24,13 +24,13 @@ above-field x k n v h l lv =
 below : (x k : ℕ) → k < 64 → bit_and x (1 * 2 ^ k % 2 ^ 64 - 1) ≡ x % 2 ^ k
 below x k h = rw (one_shl k h) (and_mask x k)
 
-add-append : tie.Need-overflow-add-append
+add-append : tie.Need-overflow_add-low
 add-append c = search rules
 
-shr-append : tie.Need-overflow-shr-append
+shr-append : tie.Need-overflow_shr-x
 shr-append c = search rules
 
-append-requires : tie.Need-append-requires
+append-requires : tie.Need-append-high-requires
 append-requires c κs =
     let a = c.args in (
       omega arith,
@@ -38,26 +38,26 @@ append-requires c κs =
       c.requires.1,
     )
 
-shl-append : tie.Need-overflow-shl-append
+shl-append : tie.Need-overflow_shl-low
 shl-append c = search rules
 
-sub-append : tie.Need-overflow-sub-append
-sub-append c = let k : ℕ = c.before.args.low in rw (one_shl k (omega arith)) (pow_pos k)
+sub-append : tie.Need-overflow_sub-low
+sub-append c = let k : ℕ = c.args.low in rw (one_shl k (omega arith)) (pow_pos k)
 
-append-requires-2 : tie.Need-append-requires-2
+append-requires-2 : tie.Need-append-requires
 append-requires-2 c κs =
     let s = c.before in
     let a = s.args in (
       omega arith,
-      rw c.append.ensures (above-field a.x a.low a.width a.v (omega arith) (omega arith) s.requires.1),
+      rw c.append-high.ensures (above-field a.x a.low a.width a.v (omega arith) (omega arith) s.requires.1),
       rw (one_shl a.low (omega arith)) (mask_lt a.x a.low),
     )
 
 returns : tie.Need-returns
 unfolding with_field
 returns c =
-    let a = c.before.before.args in
-    c.append2.ensures ∙ ap₂ (λ (y z : ℕ). y * 2 ^ a.low + z) c.before.append.ensures (below a.x a.low (omega arith))
+    let a = c.args in
+    c.append.ensures ∙ ap₂ (λ (y z : ℕ). y * 2 ^ a.low + z) c.append-high.ensures (below a.x a.low (omega arith))
 
 pub exchange_spec : {M : Type 1} → statement M
 exchange_spec =

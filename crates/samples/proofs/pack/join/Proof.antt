@@ -12,57 +12,57 @@ use Rattle.samples.proofs.Groups.{joined-none, joined-turn, joined_lt}
 use Rattle.samples.proofs.pack.join.Statement.{statement}
 use Rattle.samples.proofs.pack.join.Tie as tie
 
-abbrev invariant-loop : tie.invariant-loop
+abbrev invariant-loop : tie.invariant-loop-k
 invariant-loop dat from size width group acc₀ k₀ acc k = (k ≤ group) × (acc ≡ joined (side_by_side dat from size) width k) × Room-left k group width size
 
-abbrev decreases-loop : tie.decreases-loop
+abbrev decreases-loop : tie.decreases-loop-k
 decreases-loop dat from size width group acc₀ k₀ acc k = group - k
 
 room : (v : ℕ → ℕ) (w k : ℕ) → k * w ≤ 64 - w → joined v w k < 2 ^ (64 - w)
 room v w k h = lt_of_lt_of_le (joined_lt v w k) (pow_mono {i = k * w} {j = 64 - w} h)
 
 -- in a turn: sample k has no further bits
-fit_in : (c : tie.In-loop invariant-loop decreases-loop)
-    → let a = c.before.before.before.args in side_by_side a.dat.now a.from a.size c.before.loop.k < 2 ^ a.width
-fit_in c = c.before.before.before.requires.1 c.before.loop.k c.loop-test.true
+fit_in : (c : tie.In-loop-k invariant-loop decreases-loop)
+    → let a = c.args in side_by_side a.dat.now a.from a.size c.loop-k.k < 2 ^ a.width
+fit_in c = c.requires.1 c.loop-k.k c.loop-k-test.true
 
-loop-holds : tie.Need-loop-init invariant-loop decreases-loop
+loop-holds : tie.Need-loop-k-init invariant-loop decreases-loop
 loop-holds c = (omega arith, joined-none _ _, room-left _ _ _ _ (omega arith))
 
-mul-get-be : tie.Need-overflow-mul-get-be invariant-loop decreases-loop
+mul-get-be : tie.Need-overflow_mul-k invariant-loop decreases-loop
 mul-get-be c = omega arith
 
-add-get-be : tie.Need-overflow-add-get-be invariant-loop decreases-loop
+add-get-be : tie.Need-overflow_add-from invariant-loop decreases-loop
 add-get-be c = omega arith
 
-get-be-requires : tie.Need-get-be-requires invariant-loop decreases-loop
+get-be-requires : tie.Need-get_be-v-requires invariant-loop decreases-loop
 get-be-requires c κs = omega arith
 
-append-requires : tie.Need-append-requires invariant-loop decreases-loop
+append-requires : tie.Need-append-acc-requires invariant-loop decreases-loop
 unfolding side_by_side
 append-requires c κs =
     let head = c.before.before in
-    let a = head.before.before.args in
+    let a = head.args in
     let v : ℕ → ℕ = side_by_side a.dat.now a.from a.size in (
       omega arith,
-      rw head.loop.invariant.1 (room v a.width head.loop.k (omega arith)),
-      rw c.get-be.ensures (fit_in c.before),
+      rw head.loop-k.invariant.1 (room v a.width head.loop-k.k (omega arith)),
+      rw c.get_be-v.ensures (fit_in c.before),
     )
 
-add-k : tie.Need-overflow-add-k invariant-loop decreases-loop
+add-k : tie.Need-overflow_step-k invariant-loop decreases-loop
 add-k c = omega arith
 
-loop-less : tie.Need-loop-smaller invariant-loop decreases-loop
+loop-less : tie.Need-loop-k-smaller invariant-loop decreases-loop
 loop-less c = omega arith
 
-loop-again : tie.Need-loop-preserved invariant-loop decreases-loop
+loop-again : tie.Need-loop-k-preserved invariant-loop decreases-loop
 unfolding side_by_side
 loop-again c =
     let head = c.before.before.before in
-    (omega arith, joined-turn _ _ _ (fit_in c.before.before) head.loop.invariant.1 c.before.get-be.ensures c.append.ensures, room-left _ _ _ _ (omega arith))
+    (omega arith, joined-turn _ _ _ (fit_in c.before.before) head.loop-k.invariant.1 c.get_be-v.ensures c.append-acc.ensures, room-left _ _ _ _ (omega arith))
 
 returns : tie.Need-returns invariant-loop decreases-loop
-returns c = let e : c.before.loop.k ≡ c.before.before.before.args.group = omega arith in c.before.loop.invariant.1 ∙ rw e
+returns c = let e : c.loop-k.k ≡ c.args.group = omega arith in c.loop-k.invariant.1 ∙ rw e
 
 pub join_spec : {M : Type 1} → statement M
 join_spec =

@@ -10,58 +10,58 @@ use Rattle.samples.proofs.Moves.{So-far, none_yet, one_more, put_spaced-none, pu
 use Rattle.samples.proofs.pack.pack_by_bytes.Statement.{statement}
 use Rattle.samples.proofs.pack.pack_by_bytes.Tie as tie
 
-abbrev invariant-loop : tie.invariant-loop
+abbrev invariant-loop : tie.invariant-loop-k
 invariant-loop dat from size img₀ at step width count k₀ img k = So-far (samples_written dat from size width at step k img₀) img (length img₀) count step size k
 
-abbrev decreases-loop : tie.decreases-loop
+abbrev decreases-loop : tie.decreases-loop-k
 decreases-loop dat from size img₀ at step width count k₀ img k = count - k
 
-loop-holds : tie.Need-loop-init invariant-loop decreases-loop
+loop-holds : tie.Need-loop-k-init invariant-loop decreases-loop
 loop-holds c = none_yet (omega arith) (put_spaced-none _ _ _ _ _)
 
-mul-get-be : tie.Need-overflow-mul-get-be invariant-loop decreases-loop
+mul-get-be : tie.Need-overflow_mul-k invariant-loop decreases-loop
 mul-get-be c = omega arith
 
-add-get-be : tie.Need-overflow-add-get-be invariant-loop decreases-loop
+add-get-be : tie.Need-overflow_add-from invariant-loop decreases-loop
 add-get-be c = omega arith
 
-get-be-requires : tie.Need-get-be-requires invariant-loop decreases-loop
+get-be-requires : tie.Need-get_be-v-requires invariant-loop decreases-loop
 get-be-requires c κs = omega arith
 
-mul-put-packed : tie.Need-overflow-mul-put-packed invariant-loop decreases-loop
+mul-put-packed : tie.Need-overflow_mul-k-in-loop-k invariant-loop decreases-loop
 mul-put-packed c = omega arith
 
-add-put-packed : tie.Need-overflow-add-put-packed invariant-loop decreases-loop
+add-put-packed : tie.Need-overflow_add-at invariant-loop decreases-loop
 add-put-packed c = omega arith
 
-add-put-packed-2 : tie.Need-overflow-add-put-packed-2 invariant-loop decreases-loop
+add-put-packed-2 : tie.Need-overflow_add-size invariant-loop decreases-loop
 add-put-packed-2 c = omega arith
 
-put-packed-requires : tie.Need-put-packed-requires invariant-loop decreases-loop
+put-packed-requires : tie.Need-put_packed-requires invariant-loop decreases-loop
 unfolding side_by_side
 put-packed-requires c κs =
     let got = c.before in
     let turn = got.before in
-    (omega arith, rw got.get-be.ensures (turn.before.before.before.before.requires.1.1 turn.before.loop.k turn.loop-test.true))
+    (omega arith, rw got.get_be-v.ensures (turn.requires.1.1 turn.loop-k.k turn.loop-k-test.true))
 
-add-k : tie.Need-overflow-add-k invariant-loop decreases-loop
+add-k : tie.Need-overflow_step-k invariant-loop decreases-loop
 add-k c = omega arith
 
-loop-less : tie.Need-loop-smaller invariant-loop decreases-loop
+loop-less : tie.Need-loop-k-smaller invariant-loop decreases-loop
 loop-less c = omega arith
 
-loop-again : tie.Need-loop-preserved invariant-loop decreases-loop
+loop-again : tie.Need-loop-k-preserved invariant-loop decreases-loop
 unfolding side_by_side
 loop-again c =
     let put = c.before.before in let got = put.before.before in let head = got.before.before in
-    one_more head.loop.invariant (omega (arith, put.put-packed.auto))
-    (put_spaced-turn _ _ _ _ _ _ head.loop.invariant.1 got.get-be.ensures put.put-packed.ensures)
+    one_more head.loop-k.invariant (omega (arith, put.put_packed.auto))
+    (put_spaced-turn _ _ _ _ _ _ head.loop-k.invariant.1 got.get_be-v.ensures put.put_packed.ensures)
 
-same_length : tie.Need-same-length invariant-loop decreases-loop
+same_length : tie.Need-shape_of-img invariant-loop decreases-loop
 same_length c = omega arith
 
 returns : tie.Need-returns invariant-loop decreases-loop
-returns c = let e : c.before.loop.k ≡ c.before.before.before.before.args.count = omega arith in c.before.loop.invariant.1 ∙ rw e
+returns c = let e : c.loop-k.k ≡ c.args.count = omega arith in c.loop-k.invariant.1 ∙ rw e
 
 pub pack_by_bytes_spec : {M : Type 1} → statement M
 pack_by_bytes_spec =

@@ -10,83 +10,83 @@ use Rattle.samples.proofs.pack.pack_grouped.Statement.{statement}
 use Rattle.samples.proofs.pack.pack_grouped.Tie as tie
 
 -- from a whole byte on: the whole groups in each run
-groups_in : (c : tie.Then2)
-    → let g = c.before.before.Group-of.result in
-    let a = c.before.before.before.before.before.args in
+groups_in : (c : tie.Then-bytes-le8)
+    → let g = c.group_of-group.result in
+    let a = c.args in
     Groups a.count g a.size a.width (g * a.width / 8)
 groups_in c =
-    let g = c.before.before.Group-of.result in
-    let a = c.before.before.before.before.before.args in
-    groups a.count g a.size a.width (g * a.width / 8) (omega (arith, c.before.before.Group-of.ensures))
+    let g = c.group_of-group.result in
+    let a = c.args in
+    groups a.count g a.size a.width (g * a.width / 8) (omega (arith, c.group_of-group.ensures))
 
-group-of-requires : tie.Need-group-of-requires
+group-of-requires : tie.Need-group_of-group-requires
 group-of-requires c κs = search rules
 
-mul-bytes : tie.Need-overflow-mul-bytes
+mul-bytes : tie.Need-overflow_mul-bytes
 mul-bytes c = search rules
 
-div-n : tie.Need-nonzero-div-n
+div-n : tie.Need-nonzero_div-n
 div-n c = search rules
 
-mul-done : tie.Need-overflow-mul-done
+mul-done : tie.Need-overflow_mul-done
 mul-done c = omega (arith, groups_in c)
 
-pack-groups-requires : tie.Need-pack-groups-requires
+pack-groups-requires : tie.Need-pack_groups-requires
 pack-groups-requires c κs =
     let there = c.before in
     let start = there.before.before.before.before.before in
-    let few : there.before.before.Group-of.result * start.args.width / 8 ≤ 8 = leb-true _ _ there.if2.true in
+    let few : there.group_of-group.result * start.args.width / 8 ≤ 8 = there.if-bytes-le8.true in
     let p = start.requires in
-    let e = there.before.before.Group-of.ensures in
+    let e = there.group_of-group.ensures in
     let g = groups_in there in
     (omega arith, (omega arith, λ k h. p.1.1 k (omega arith)))
 
-mul-pack-each : tie.Need-overflow-mul-pack-each
+mul-pack-each : tie.Need-overflow_mul-done-then-bytes-le8
 mul-pack-each c = omega (arith, groups_in c.before.before.before.before)
 
-add-pack-each : tie.Need-overflow-add-pack-each
+add-pack-each : tie.Need-overflow_add-from
 add-pack-each c = omega (arith, groups_in c.before.before.before.before)
 
-mul-pack-each-2 : tie.Need-overflow-mul-pack-each-2
+mul-pack-each-2 : tie.Need-overflow_mul-done-then-bytes-le8-2
 mul-pack-each-2 c = omega (arith, groups_in c.before.before.before.before.before)
 
-add-pack-each-2 : tie.Need-overflow-add-pack-each-2
+add-pack-each-2 : tie.Need-overflow_add-at
 add-pack-each-2 c = omega (arith, groups_in c.before.before.before.before.before)
 
-sub-pack-each : tie.Need-overflow-sub-pack-each
+sub-pack-each : tie.Need-overflow_sub-count
 sub-pack-each c = (groups_in c.before.before.before.before.before).0
 
-pack-each-requires : tie.Need-pack-each-requires
+pack-each-requires : tie.Need-pack_each-requires
 pack-each-requires c κs =
     let first = c.before.before.before in
     let there = first.before.before in
     let s = there.before.before.before.before.before in
     let p = s.requires in
     let g = groups_in there in
-    let e = first.pack-groups.auto in
+    let e = first.pack_groups.auto in
     (omega arith, (omega arith, fit-part _ s.args.from s.args.size _ s.args.count _ _ p.1.1 (omega arith) refl))
 
-pack-each-requires-2 : tie.Need-pack-each-requires-2
-pack-each-requires-2 c κs = (omega arith, (omega arith, c.before.before.before.before.before.requires.1.1))
+pack-each-requires-2 : tie.Need-pack_each-requires-else-at-eq0
+pack-each-requires-2 c κs = (omega arith, (omega arith, c.requires.1.1))
 
-same_length : tie.Need-same-length
+same_length : tie.Need-shape_of-img-then-bytes-le8
 same_length c = search rules
 
-returns : tie.Need-returns
+returns : tie.Need-returns-then-bytes-le8
 returns c =
     let rest = c.before.before in
     let first = rest.before.before.before.before in
     let there = first.before.before in
-    let g = there.before.before.Group-of.result in
-    let a = there.before.before.before.before.before.args in
-    let e : 8 * (a.at / 8) ≡ a.at = omega (arith, there.before.if1.true) in
+    let g = there.group_of-group.result in
+    let a = there.args in
+    let e : 8 * (a.at / 8) ≡ a.at = omega (arith, there.if-at-eq0.true) in
     put_rest a.dat.now a.from a.size a.width a.at a.width (a.count / g * g) a.count a.img.now (groups_in there).0
-    (rw e at first.pack-groups.ensures) rest.pack-each.ensures
+    (rw e at first.pack_groups.ensures) rest.pack_each.ensures
 
-same-length-2 : tie.Need-same-length-2
+same-length-2 : tie.Need-shape_of-img-else-at-eq0
 same-length-2 c = search rules
 
-returns-2 : tie.Need-returns-2
+returns-2 : tie.Need-returns-else-at-eq0
 returns-2 c = search rules
 
 pub pack_grouped_spec : {M : Type 1} → statement M

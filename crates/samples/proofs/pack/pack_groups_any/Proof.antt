@@ -12,59 +12,59 @@ use Rattle.samples.proofs.Groups.{groups_none, group_turn, fit-part}
 use Rattle.samples.proofs.pack.pack_groups_any.Statement.{statement}
 use Rattle.samples.proofs.pack.pack_groups_any.Tie as tie
 
-abbrev invariant-loop : tie.invariant-loop
+abbrev invariant-loop : tie.invariant-loop-k
 invariant-loop dat from size img₀ q width group bytes n k₀ img k =
     So-far (samples_written dat from size width (8 * q) width (k * group) img₀) img (length img₀) n bytes (group * size) k
 
-abbrev decreases-loop : tie.decreases-loop
+abbrev decreases-loop : tie.decreases-loop-k
 decreases-loop dat from size img₀ q width group bytes n k₀ img k = n - k
 
-loop-holds : tie.Need-loop-init invariant-loop decreases-loop
-loop-holds c = none_yet (omega (arith, mul-le-mul_left c.before.before.args.group c.before.before.requires.0.0)) (groups_none _ _ _ _ _ _)
+loop-holds : tie.Need-loop-k-init invariant-loop decreases-loop
+loop-holds c = none_yet (omega (arith, mul-le-mul_left c.args.group c.requires.0.0)) (groups_none _ _ _ _ _ _)
 
-mul-join : tie.Need-overflow-mul-join invariant-loop decreases-loop
+mul-join : tie.Need-overflow_mul-group invariant-loop decreases-loop
 mul-join c = omega arith
 
-mul-join-2 : tie.Need-overflow-mul-join-2 invariant-loop decreases-loop
+mul-join-2 : tie.Need-overflow_mul-k invariant-loop decreases-loop
 mul-join-2 c = omega arith
 
-add-join : tie.Need-overflow-add-join invariant-loop decreases-loop
+add-join : tie.Need-overflow_add-from invariant-loop decreases-loop
 add-join c = omega arith
 
-join-requires : tie.Need-join-requires invariant-loop decreases-loop
+join-requires : tie.Need-join-v-requires invariant-loop decreases-loop
 join-requires c κs =
-    let k = c.before.loop.k in
+    let k = c.loop-k.k in
     let s = c.before.before.before.before in
     let a = s.args in
-    (omega arith, fit-part _ a.from a.size _ _ (k * a.group) _ s.requires.1.1 (within k a.n a.group c.loop-test.true) (omega arith))
+    (omega arith, fit-part _ a.from a.size _ _ (k * a.group) _ s.requires.1.1 (within k a.n a.group c.loop-k-test.true) (omega arith))
 
-mul-put-be : tie.Need-overflow-mul-put-be invariant-loop decreases-loop
+mul-put-be : tie.Need-overflow_mul-k-in-loop-k invariant-loop decreases-loop
 mul-put-be c = omega arith
 
-add-put-be : tie.Need-overflow-add-put-be invariant-loop decreases-loop
+add-put-be : tie.Need-overflow_add-q invariant-loop decreases-loop
 add-put-be c = omega arith
 
-put-be-requires : tie.Need-put-be-requires invariant-loop decreases-loop
+put-be-requires : tie.Need-put_be-requires invariant-loop decreases-loop
 put-be-requires c κs = omega arith
 
-add-k : tie.Need-overflow-add-k invariant-loop decreases-loop
+add-k : tie.Need-overflow_step-k invariant-loop decreases-loop
 add-k c = omega arith
 
-loop-less : tie.Need-loop-smaller invariant-loop decreases-loop
+loop-less : tie.Need-loop-k-smaller invariant-loop decreases-loop
 loop-less c = omega arith
 
-loop-again : tie.Need-loop-preserved invariant-loop decreases-loop
+loop-again : tie.Need-loop-k-preserved invariant-loop decreases-loop
 loop-again c =
     let put = c.before.before in let got = put.before.before in let head = got.before.before in
-    one_more head.loop.invariant (omega (arith, put.put-be.auto))
-    (group_turn _ _ _ _ _ _ _ _ _ (λ i. (head.before.slice-known.given i).fits) (omega arith) (omega arith)
-    head.loop.invariant.1 got.join.ensures put.put-be.ensures)
+    one_more head.loop-k.invariant (omega (arith, put.put_be.auto))
+    (group_turn _ _ _ _ _ _ _ _ _ (λ i. (head.slice_known-1.given i).fits) (omega arith) (omega arith)
+    head.loop-k.invariant.1 got.join-v.ensures put.put_be.ensures)
 
-same_length : tie.Need-same-length invariant-loop decreases-loop
+same_length : tie.Need-shape_of-img invariant-loop decreases-loop
 same_length c = omega arith
 
 returns : tie.Need-returns invariant-loop decreases-loop
-returns c = let e : c.before.loop.k ≡ c.before.before.before.before.args.n = omega arith in c.before.loop.invariant.1 ∙ rw e
+returns c = let e : c.loop-k.k ≡ c.args.n = omega arith in c.loop-k.invariant.1 ∙ rw e
 
 pub pack_groups_any_spec : {M : Type 1} → statement M
 pack_groups_any_spec =

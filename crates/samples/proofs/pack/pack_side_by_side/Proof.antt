@@ -8,42 +8,42 @@ use Rattle.samples.proofs.pack.pack_side_by_side.Statement.{statement}
 use Rattle.samples.proofs.pack.pack_side_by_side.Tie as tie
 
 -- the two parts of each run
-parts_in : (c : tie.After-before-byte) → let a = c.before.before.before.args in Parts c.before-byte.result a.count a.size a.width
-parts_in c = let a = c.before.before.before.args in parts c.before-byte.result a.count a.size a.width c.before-byte.ensures
+parts_in : (c : tie.After-before_byte-head) → let a = c.args in Parts c.before-byte.result a.count a.size a.width
+parts_in c = let a = c.args in parts c.before-byte.result a.count a.size a.width c.before-byte.ensures
 
-before-byte-requires : tie.Need-before-byte-requires
+before-byte-requires : tie.Need-before_byte-head-requires
 before-byte-requires c κs = search rules
 
-pack-each-requires : tie.Need-pack-each-requires
+pack-each-requires : tie.Need-pack_each-requires
 pack-each-requires c κs =
     let q = parts_in c.before in
-    (omega arith, (omega arith, λ k h. c.before.before.before.before.requires.1.1 k (omega arith)))
+    (omega arith, (omega arith, λ k h. c.requires.1.1 k (omega arith)))
 
-mul-pack-grouped : tie.Need-overflow-mul-pack-grouped
+mul-pack-grouped : tie.Need-overflow_mul-head
 mul-pack-grouped c = omega (arith, parts_in c.before.before.before.before)
 
-add-pack-grouped : tie.Need-overflow-add-pack-grouped
+add-pack-grouped : tie.Need-overflow_add-from
 add-pack-grouped c = omega (arith, parts_in c.before.before.before.before)
 
-mul-pack-grouped-2 : tie.Need-overflow-mul-pack-grouped-2
+mul-pack-grouped-2 : tie.Need-overflow_mul-head-2
 mul-pack-grouped-2 c = omega (arith, parts_in c.before.before.before.before.before)
 
-add-pack-grouped-2 : tie.Need-overflow-add-pack-grouped-2
+add-pack-grouped-2 : tie.Need-overflow_add-at
 add-pack-grouped-2 c = omega (arith, parts_in c.before.before.before.before.before)
 
-sub-pack-grouped : tie.Need-overflow-sub-pack-grouped
+sub-pack-grouped : tie.Need-overflow_sub-count
 sub-pack-grouped c = search rules
 
-pack-grouped-requires : tie.Need-pack-grouped-requires
+pack-grouped-requires : tie.Need-pack_grouped-requires
 pack-grouped-requires c κs =
     let first = c.before.before.before in
     let start = first.before.before.before.before.before in
     let p = start.requires in
     let q = parts_in first.before.before in
-    let l = first.pack-each.auto in
+    let l = first.pack_each.auto in
     (omega arith, (omega arith, fit-part _ start.args.from start.args.size _ start.args.count _ _ p.1.1 (omega arith) refl))
 
-same_length : tie.Need-same-length
+same_length : tie.Need-shape_of-img
 same_length c = search rules
 
 returns : tie.Need-returns
@@ -51,9 +51,9 @@ returns c =
     let rest = c.before.before in
     let first = rest.before.before.before.before in
     let head = first.before.before in
-    let a = head.before.before.before.args in
+    let a = head.args in
     put_rest a.dat.now a.from a.size a.width a.at a.width head.before-byte.result a.count a.img.now head.before-byte.ensures
-    first.pack-each.ensures rest.pack-grouped.ensures
+    first.pack_each.ensures rest.pack_grouped.ensures
 
 pub pack_side_by_side_spec : {M : Type 1} → statement M
 pack_side_by_side_spec =

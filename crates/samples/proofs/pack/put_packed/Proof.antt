@@ -8,25 +8,25 @@ use borrow.Author.Rules.{rules}
 use Rattle.samples.proofs.pack.put_packed.Statement.{statement}
 use Rattle.samples.proofs.pack.put_packed.Tie as tie
 
-get-be-requires : tie.Need-get-be-requires
+get-be-requires : tie.Need-get_be-x-requires
 get-be-requires c κs = search rules
 
-mul-exchange : tie.Need-overflow-mul-exchange
+mul-exchange : tie.Need-overflow_mul-n
 mul-exchange c = search rules
 
-sub-exchange : tie.Need-overflow-sub-exchange
+sub-exchange : tie.Need-overflow_sub-n
 sub-exchange c = search rules
 
-sub-exchange-2 : tie.Need-overflow-sub-exchange-2
+sub-exchange-2 : tie.Need-overflow_sub-n-2
 sub-exchange-2 c = search rules
 
 exchange-requires : tie.Need-exchange-requires
 exchange-requires c κs = search rules
 
-put-be-requires : tie.Need-put-be-requires
+put-be-requires : tie.Need-put_be-requires
 put-be-requires c κs = search rules
 
-same_length : tie.Need-same-length
+same_length : tie.Need-shape_of-img
 same_length c = search rules
 
 returns : tie.Need-returns
@@ -35,9 +35,9 @@ returns c =
     let changed = put.before in
     let got = changed.before.before in
     let known = got.before.before in
-    let a = known.before.args in
-    put_bits-within a.img.now a.at a.width (8 * a.n - a.at % 8 - a.width) a.n a.v (λ i. (known.slice-known.given i).fits)
-    (omega (arith, known.before.requires)) (omega (arith, known.before.requires)) got.get-be.ensures (rw (mod-eq_of_lt known.before.requires.1) changed.exchange.ensures) put.put-be.ensures
+    let a = known.args in
+    put_bits-within a.img.now a.at a.width (8 * a.n - a.at % 8 - a.width) a.n a.v (λ i. (known.slice_known-1.given i).fits)
+    (omega (arith, known.requires)) (omega (arith, known.requires)) got.get_be-x.ensures (rw (mod-eq_of_lt known.requires.1) changed.exchange.ensures) put.put_be.ensures
 
 pub put_packed_spec : {M : Type 1} → statement M
 put_packed_spec =

@@ -7,31 +7,31 @@ use Rattle.samples.proofs.read.read_samples.Statement.{statement}
 use Rattle.samples.proofs.read.read_samples.Tie as tie
 
 -- samples of whole bytes: their start and their step
-whole_in : (c : tie.Then1) → let a = c.before.before.before.args in Whole a.at a.step a.count
-whole_in c = let start = c.before.before.before in whole start.args.at start.args.step start.args.count (start.requires.1.0 c.if1.true)
+whole_in : (c : tie.Then-width-size) → let a = c.args in Whole a.at a.step a.count
+whole_in c = let start = c.before.before.before in whole start.args.at start.args.step start.args.count (start.requires.1.0 c.if-width-size.true)
 
-mul-if1 : tie.Need-overflow-mul-if1
+mul-if1 : tie.Need-overflow_mul-size
 mul-if1 c = search rules
 
 gather-requires : tie.Need-gather-requires
 gather-requires c κs = omega (arith, whole_in c.before)
 
 unpack-requires : tie.Need-unpack-requires
-unpack-requires c κs = omega (arith, c.before.before.before.before.requires.0.2 (omega arith))
+unpack-requires c κs = omega (arith, c.requires.0.2 (omega arith))
 
-same_length : tie.Need-same-length
+same_length : tie.Need-shape_of-out-then-width-size
 same_length c = search rules
 
-returns : tie.Need-returns
+returns : tie.Need-returns-then-width-size
 returns c =
     let branch = c.before.before.before.before in
     let w = whole_in branch in
-    rw (w.0, w.1, ← branch.if1.true) at c.before.before.gather.ensures
+    rw (w.0, w.1, ← branch.if-width-size.true) at c.gather.ensures
 
-same-length-2 : tie.Need-same-length-2
+same-length-2 : tie.Need-shape_of-out-else-width-size
 same-length-2 c = search rules
 
-returns-2 : tie.Need-returns-2
+returns-2 : tie.Need-returns-else-width-size
 returns-2 c = search rules
 
 pub read_samples_spec : {M : Type 1} → statement M

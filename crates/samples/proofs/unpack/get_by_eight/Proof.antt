@@ -18,28 +18,28 @@ masked : (xs : List ℕ) (at w x : ℕ) → Bytes xs → w ≤ 57 → x ≡ be_a
 masked xs at w x b h e =
     rw (one_shl w (omega arith), e) (and_mask (be_at xs (at / 8) 8 / 2 ^ ((64 - at % 8 - w) % 64)) w ∙ packed xs at w b (omega arith))
 
-get-be-requires : tie.Need-get-be-requires
+get-be-requires : tie.Need-get_be-x-requires
 get-be-requires c κs = search rules
 
-sub-result : tie.Need-overflow-sub-result
+sub-result : tie.Need-overflow_sub-result
 sub-result c = search rules
 
-sub-result-2 : tie.Need-overflow-sub-result-2
+sub-result-2 : tie.Need-overflow_sub-result-2
 sub-result-2 c = search rules
 
-shr-result : tie.Need-overflow-shr-result
+shr-result : tie.Need-overflow_shr-result
 shr-result c = search rules
 
-shl-result : tie.Need-overflow-shl-result
+shl-result : tie.Need-overflow_shl-result
 shl-result c = search rules
 
-sub-result-3 : tie.Need-overflow-sub-result-3
-sub-result-3 c = let w : ℕ = c.before.before.args.width in rw (one_shl w (omega arith)) (pow_pos w)
+sub-result-3 : tie.Need-overflow_sub-result-3
+sub-result-3 c = let w : ℕ = c.args.width in rw (one_shl w (omega arith)) (pow_pos w)
 
 returns : tie.Need-returns
 returns c =
-    let a = c.before.before.args in
-    masked a.src.now a.at a.width c.get-be.result (λ i. (c.before.shared-slice-known.given i).fits) (omega arith) c.get-be.ensures
+    let a = c.args in
+    masked a.src.now a.at a.width c.get_be-x.result (λ i. (c.shared_slice_known-1.given i).fits) (omega arith) c.get_be-x.ensures
 
 pub get_by_eight_spec : {M : Type 1} → statement M
 get_by_eight_spec =

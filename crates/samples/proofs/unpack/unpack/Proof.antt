@@ -25,40 +25,40 @@ spaced-rest xs at step w m j = ap (λ (i : ℕ). bits_at xs i w) (omega (arith, 
 abbrev Cut : ℕ → ℕ → ℕ → ℕ → Type 0
 Cut m n step size = (m ≤ n) × (m * step + (n - m) * step ≡ n * step) × (m * size + (n - m) * size ≡ n * size)
 
-cut_in : (c : tie.After-count-by-eight) → let a = c.before.before.before.args in Cut c.count-by-eight.result a.count a.step a.size
+cut_in : (c : tie.After-count_by_eight-most) → let a = c.args in Cut c.count_by_eight-most.result a.count a.step a.size
 cut_in c =
-    let a = c.before.before.before.args in
-    let m : ℕ = c.count-by-eight.result in
-    let h : m ≤ a.count = c.count-by-eight.ensures.0 in
+    let a = c.args in
+    let m : ℕ = c.count_by_eight-most.result in
+    let h : m ≤ a.count = c.count_by_eight-most.ensures.0 in
     (h, parts m a.count a.step h, parts m a.count a.size h)
 
-count-by-eight-requires : tie.Need-count-by-eight-requires
+count-by-eight-requires : tie.Need-count_by_eight-most-requires
 count-by-eight-requires c κs = search rules
 
-unpack-by-eight-requires : tie.Need-unpack-by-eight-requires
+unpack-by-eight-requires : tie.Need-unpack_by_eight-requires
 unpack-by-eight-requires c κs =
     let f = cut_in c.before in
-    (omega arith, (c.before.count-by-eight.ensures.1, omega arith))
+    (omega arith, (c.count_by_eight-most.ensures.1, omega arith))
 
-mul-unpack-rest : tie.Need-overflow-mul-unpack-rest
+mul-unpack-rest : tie.Need-overflow_mul-most
 mul-unpack-rest c = omega (arith, cut_in c.before.before.before.before)
 
-add-unpack-rest : tie.Need-overflow-add-unpack-rest
+add-unpack-rest : tie.Need-overflow_add-at
 add-unpack-rest c = omega (arith, cut_in c.before.before.before.before)
 
-sub-unpack-rest : tie.Need-overflow-sub-unpack-rest
+sub-unpack-rest : tie.Need-overflow_sub-count
 sub-unpack-rest c = search rules
 
-mul-unpack-rest-2 : tie.Need-overflow-mul-unpack-rest-2
+mul-unpack-rest-2 : tie.Need-overflow_mul-most-2
 mul-unpack-rest-2 c = omega (arith, cut_in c.before.before.before.before.before)
 
-add-unpack-rest-2 : tie.Need-overflow-add-unpack-rest-2
+add-unpack-rest-2 : tie.Need-overflow_add-to
 add-unpack-rest-2 c = omega (arith, cut_in c.before.before.before.before.before)
 
-unpack-rest-requires : tie.Need-unpack-rest-requires
-unpack-rest-requires c κs = omega (arith, cut_in c.before.before.before.before.before, c.before.before.before.unpack-by-eight.auto)
+unpack-rest-requires : tie.Need-unpack_rest-requires
+unpack-rest-requires c κs = omega (arith, cut_in c.before.before.before.before.before, c.unpack_by_eight.auto)
 
-same_length : tie.Need-same-length
+same_length : tie.Need-shape_of-out
 same_length c = search rules
 
 returns : tie.Need-returns
@@ -66,11 +66,11 @@ returns c =
     let rest = c.before.before in
     let first = rest.before.before.before.before in
     let counted = first.before.before in
-    let a = counted.before.before.before.args in
-    let m : ℕ = counted.count-by-eight.result in
+    let a = counted.args in
+    let m : ℕ = counted.count_by_eight-most.result in
     let f = cut_in counted in
     values_run (spaced a.src.now a.at a.step a.width) (spaced a.src.now (a.at + m * a.step) a.step a.width) a.size a.out.now a.to m (a.count - m) (omega arith)
-    first.unpack-by-eight.ensures rest.unpack-rest.ensures
+    first.unpack_by_eight.ensures rest.unpack_rest.ensures
     (λ j l. spaced-rest a.src.now a.at a.step a.width m j)
     ∙ rw (add-sub_of_le f.0)
 

@@ -10,51 +10,51 @@ use Rattle.bits.proofs.Values.{values-none, values-turn}
 use Rattle.samples.proofs.unpack.unpack_by_eight_any.Statement.{statement}
 use Rattle.samples.proofs.unpack.unpack_by_eight_any.Tie as tie
 
-abbrev invariant-loop : tie.invariant-loop
+abbrev invariant-loop : tie.invariant-loop-k
 invariant-loop src at step width size count out₀ to k₀ out k = So-far (samples_read src at step width size k to out₀) out (length out₀) count step size k
 
-abbrev decreases-loop : tie.decreases-loop
+abbrev decreases-loop : tie.decreases-loop-k
 decreases-loop src at step width size count out₀ to k₀ out k = count - k
 
-loop-holds : tie.Need-loop-init invariant-loop decreases-loop
+loop-holds : tie.Need-loop-k-init invariant-loop decreases-loop
 loop-holds c = none_yet (omega arith) (values-none _ _ _ _)
 
-mul-get-by-eight : tie.Need-overflow-mul-get-by-eight invariant-loop decreases-loop
+mul-get-by-eight : tie.Need-overflow_mul-k invariant-loop decreases-loop
 mul-get-by-eight c = omega arith
 
-add-get-by-eight : tie.Need-overflow-add-get-by-eight invariant-loop decreases-loop
+add-get-by-eight : tie.Need-overflow_add-at invariant-loop decreases-loop
 add-get-by-eight c = omega arith
 
-get-by-eight-requires : tie.Need-get-by-eight-requires invariant-loop decreases-loop
-get-by-eight-requires c κs = omega (arith, c.before.before.before.before.requires.1.0 (omega arith))
+get-by-eight-requires : tie.Need-get_by_eight-v-requires invariant-loop decreases-loop
+get-by-eight-requires c κs = omega (arith, c.requires.1.0 (omega arith))
 
-mul-put-be : tie.Need-overflow-mul-put-be invariant-loop decreases-loop
+mul-put-be : tie.Need-overflow_mul-k-in-loop-k invariant-loop decreases-loop
 mul-put-be c = omega arith
 
-add-put-be : tie.Need-overflow-add-put-be invariant-loop decreases-loop
+add-put-be : tie.Need-overflow_add-to invariant-loop decreases-loop
 add-put-be c = omega arith
 
-put-be-requires : tie.Need-put-be-requires invariant-loop decreases-loop
+put-be-requires : tie.Need-put_be-requires invariant-loop decreases-loop
 put-be-requires c κs = omega arith
 
-add-k : tie.Need-overflow-add-k invariant-loop decreases-loop
+add-k : tie.Need-overflow_step-k invariant-loop decreases-loop
 add-k c = omega arith
 
-loop-less : tie.Need-loop-smaller invariant-loop decreases-loop
+loop-less : tie.Need-loop-k-smaller invariant-loop decreases-loop
 loop-less c = omega arith
 
-loop-again : tie.Need-loop-preserved invariant-loop decreases-loop
+loop-again : tie.Need-loop-k-preserved invariant-loop decreases-loop
 unfolding spaced
 loop-again c =
     let put = c.before.before in let got = put.before.before in let head = got.before.before in
-    one_more head.loop.invariant (omega (arith, put.put-be.auto))
-    (values-turn _ _ _ _ _ (omega arith) head.loop.invariant.1 got.get-by-eight.ensures put.put-be.ensures)
+    one_more head.loop-k.invariant (omega (arith, put.put_be.auto))
+    (values-turn _ _ _ _ _ (omega arith) head.loop-k.invariant.1 got.get_by_eight-v.ensures put.put_be.ensures)
 
-same_length : tie.Need-same-length invariant-loop decreases-loop
+same_length : tie.Need-shape_of-out invariant-loop decreases-loop
 same_length c = omega arith
 
 returns : tie.Need-returns invariant-loop decreases-loop
-returns c = let e : c.before.loop.k ≡ c.before.before.before.before.args.count = omega arith in c.before.loop.invariant.1 ∙ rw e
+returns c = let e : c.loop-k.k ≡ c.args.count = omega arith in c.loop-k.invariant.1 ∙ rw e
 
 pub unpack_by_eight_any_spec : {M : Type 1} → statement M
 unpack_by_eight_any_spec =

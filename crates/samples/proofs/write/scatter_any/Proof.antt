@@ -10,52 +10,52 @@ use Rattle.samples.proofs.Moves.{So-far, none_yet, one_more, put_spaced-none, pu
 use Rattle.samples.proofs.write.scatter_any.Statement.{statement}
 use Rattle.samples.proofs.write.scatter_any.Tie as tie
 
-abbrev invariant-loop : tie.invariant-loop
+abbrev invariant-loop : tie.invariant-loop-k
 invariant-loop dat from size img₀ at step count k₀ img k =
     So-far (samples_written dat from size (8 * size) (8 * at) (8 * step) k img₀) img (length img₀) count step size k
 
-abbrev decreases-loop : tie.decreases-loop
+abbrev decreases-loop : tie.decreases-loop-k
 decreases-loop dat from size img₀ at step count k₀ img k = count - k
 
-loop-holds : tie.Need-loop-init invariant-loop decreases-loop
+loop-holds : tie.Need-loop-k-init invariant-loop decreases-loop
 loop-holds c = none_yet (omega arith) (put_spaced-none _ _ _ _ _)
 
-mul-get-be : tie.Need-overflow-mul-get-be invariant-loop decreases-loop
+mul-get-be : tie.Need-overflow_mul-k invariant-loop decreases-loop
 mul-get-be c = omega arith
 
-add-get-be : tie.Need-overflow-add-get-be invariant-loop decreases-loop
+add-get-be : tie.Need-overflow_add-from invariant-loop decreases-loop
 add-get-be c = omega arith
 
-get-be-requires : tie.Need-get-be-requires invariant-loop decreases-loop
+get-be-requires : tie.Need-get_be-v-requires invariant-loop decreases-loop
 get-be-requires c κs = omega arith
 
-mul-put-be : tie.Need-overflow-mul-put-be invariant-loop decreases-loop
+mul-put-be : tie.Need-overflow_mul-k-in-loop-k invariant-loop decreases-loop
 mul-put-be c = omega arith
 
-add-put-be : tie.Need-overflow-add-put-be invariant-loop decreases-loop
+add-put-be : tie.Need-overflow_add-at invariant-loop decreases-loop
 add-put-be c = omega arith
 
-put-be-requires : tie.Need-put-be-requires invariant-loop decreases-loop
+put-be-requires : tie.Need-put_be-requires invariant-loop decreases-loop
 put-be-requires c κs = omega arith
 
-add-k : tie.Need-overflow-add-k invariant-loop decreases-loop
+add-k : tie.Need-overflow_step-k invariant-loop decreases-loop
 add-k c = omega arith
 
-loop-less : tie.Need-loop-smaller invariant-loop decreases-loop
+loop-less : tie.Need-loop-k-smaller invariant-loop decreases-loop
 loop-less c = omega arith
 
-loop-again : tie.Need-loop-preserved invariant-loop decreases-loop
+loop-again : tie.Need-loop-k-preserved invariant-loop decreases-loop
 unfolding side_by_side
 loop-again c =
     let put = c.before.before in let got = put.before.before in let head = got.before.before in
-    one_more head.loop.invariant (omega (arith, put.put-be.auto))
-    (put-turn _ _ _ _ _ _ (λ i. (head.before.slice-known.given i).fits) (omega arith) head.loop.invariant.1 got.get-be.ensures put.put-be.ensures)
+    one_more head.loop-k.invariant (omega (arith, put.put_be.auto))
+    (put-turn _ _ _ _ _ _ (λ i. (head.slice_known-1.given i).fits) (omega arith) head.loop-k.invariant.1 got.get_be-v.ensures put.put_be.ensures)
 
-same_length : tie.Need-same-length invariant-loop decreases-loop
+same_length : tie.Need-shape_of-img invariant-loop decreases-loop
 same_length c = omega arith
 
 returns : tie.Need-returns invariant-loop decreases-loop
-returns c = let e : c.before.loop.k ≡ c.before.before.before.before.args.count = omega arith in c.before.loop.invariant.1 ∙ rw e
+returns c = let e : c.loop-k.k ≡ c.args.count = omega arith in c.loop-k.invariant.1 ∙ rw e
 
 pub scatter_any_spec : {M : Type 1} → statement M
 scatter_any_spec =
