@@ -18,48 +18,48 @@ use Rattle.fits.proofs.all_below.Tie as tie
 abbrev below : List ℕ → ℕ → ℕ → ℕ → ℕ → Bool
 below bytes from step limit k = ltb (get_or bytes (from + k * step) 0) limit
 
-abbrev invariant-loop : tie.invariant-loop
+abbrev invariant-loop : tie.invariant-loop-k
 invariant-loop bytes from step count limit k₀ k = (k ≤ count) × (all_below k (below bytes from step limit) ≡ true)
 
-abbrev decreases-loop : tie.decreases-loop
+abbrev decreases-loop : tie.decreases-loop-k
 decreases-loop bytes from step count limit k₀ k = count - k
 
-loop-holds : tie.Need-loop-init invariant-loop decreases-loop
+loop-holds : tie.Need-loop-k-init invariant-loop decreases-loop
 unfolding all_below
 loop-holds c = (omega arith, refl)
 
-mul-b : tie.Need-overflow-mul-b invariant-loop decreases-loop
-mul-b c = omega (arith, within c.before.loop.k c.before.before.args.count c.before.before.args.step (omega arith))
+mul-b : tie.Need-overflow_mul-b invariant-loop decreases-loop
+mul-b c = omega (arith, within c.loop-k.k c.args.count c.args.step (omega arith))
 
-add-b : tie.Need-overflow-add-b invariant-loop decreases-loop
-add-b c = omega (arith, within c.before.loop.k c.before.before.args.count c.before.before.args.step (omega arith))
+add-b : tie.Need-overflow_add-b invariant-loop decreases-loop
+add-b c = omega (arith, within c.loop-k.k c.args.count c.args.step (omega arith))
 
-shared-slice-read-b : tie.Need-shared-slice-read-b invariant-loop decreases-loop
+shared-slice-read-b : tie.Need-bounds-bytes-from invariant-loop decreases-loop
 shared-slice-read-b c =
-    let a = c.before.before.before.args in
-    omega (arith, within c.before.before.loop.k a.count a.step (omega arith))
+    let a = c.args in
+    omega (arith, within c.loop-k.k a.count a.step (omega arith))
 
-returns : tie.Need-returns invariant-loop decreases-loop
+returns : tie.Need-returns-then-b-limit invariant-loop decreases-loop
 returns c =
-    let a = c.before.before.before.before.args in
-    sym (below_fails _ (below a.bytes.now a.from a.step a.limit) c.before.before.before.loop.k (omega arith) (le-ltb _ _ c.if1.true))
+    let a = c.args in
+    sym (below_fails _ (below a.bytes.now a.from a.step a.limit) c.loop-k.k (omega arith) (le-ltb _ _ c.if-b-limit.true))
 
-add-k : tie.Need-overflow-add-k invariant-loop decreases-loop
+add-k : tie.Need-overflow_step-k invariant-loop decreases-loop
 add-k c = omega arith
 
-loop-less : tie.Need-loop-smaller invariant-loop decreases-loop
+loop-less : tie.Need-loop-k-smaller invariant-loop decreases-loop
 loop-less c = omega arith
 
-loop-again : tie.Need-loop-preserved invariant-loop decreases-loop
+loop-again : tie.Need-loop-k-preserved invariant-loop decreases-loop
 loop-again c =
-    let a = c.before.before.before.before.args in
-    (omega arith, below_next _ (below a.bytes.now a.from a.step a.limit) c.before.before.before.loop.invariant.1 (lt-ltb _ _ c.if1.false))
+    let a = c.args in
+    (omega arith, below_next _ (below a.bytes.now a.from a.step a.limit) c.loop-k.invariant.1 (lt-ltb _ _ c.if-b-limit.false))
 
-returns-2 : tie.Need-returns-2 invariant-loop decreases-loop
+returns-2 : tie.Need-returns invariant-loop decreases-loop
 returns-2 c =
-    let a = c.before.before.args in
-    let e : c.before.loop.k ≡ a.count = omega arith in
-    sym (ap (λ (n : ℕ). all_below n (below a.bytes.now a.from a.step a.limit)) (sym e) ∙ c.before.loop.invariant.1)
+    let a = c.args in
+    let e : c.loop-k.k ≡ a.count = omega arith in
+    sym (ap (λ (n : ℕ). all_below n (below a.bytes.now a.from a.step a.limit)) (sym e) ∙ c.loop-k.invariant.1)
 
 pub all_below_spec : {M : Type 1} → statement M
 all_below_spec =

@@ -9,45 +9,45 @@ use Rattle.fits.proofs.FirstBytes.{Raised, raised-none, raised-turn}
 use Rattle.fits.proofs.raise.Statement.{statement}
 use Rattle.fits.proofs.raise.Tie as tie
 
-abbrev invariant-loop : tie.invariant-loop
+abbrev invariant-loop : tie.invariant-loop-j
 invariant-loop tops₀ dat at j₀ tops j = (j ≤ 128) × (length tops ≡ 128) × Raised tops₀ dat at tops j
 
-abbrev decreases-loop : tie.decreases-loop
+abbrev decreases-loop : tie.decreases-loop-j
 decreases-loop tops₀ dat at j₀ tops j = 128 - j
 
-loop-holds : tie.Need-loop-init invariant-loop decreases-loop
-loop-holds c = (omega arith, c.before.before.requires.0, raised-none _ _ _)
+loop-holds : tie.Need-loop-j-init invariant-loop decreases-loop
+loop-holds c = (omega arith, c.requires.0, raised-none _ _ _)
 
-greatest-of-four-requires : tie.Need-greatest-of-four-requires invariant-loop decreases-loop
+greatest-of-four-requires : tie.Need-greatest_of_four-b-requires invariant-loop decreases-loop
 greatest-of-four-requires c κs = omega arith
 
-slice-read-larger : tie.Need-slice-read-larger invariant-loop decreases-loop
+slice-read-larger : tie.Need-bounds-tops-j invariant-loop decreases-loop
 slice-read-larger c = omega arith
 
 larger-requires : tie.Need-larger-requires invariant-loop decreases-loop
 larger-requires c κs = search rules
 
-slice-write-tops : tie.Need-slice-write-tops invariant-loop decreases-loop
+slice-write-tops : tie.Need-bounds-tops-j-in-loop-j invariant-loop decreases-loop
 slice-write-tops c = omega arith
 
-add-j : tie.Need-overflow-add-j invariant-loop decreases-loop
+add-j : tie.Need-overflow_step-j invariant-loop decreases-loop
 add-j c = omega arith
 
-loop-less : tie.Need-loop-smaller invariant-loop decreases-loop
+loop-less : tie.Need-loop-j-smaller invariant-loop decreases-loop
 loop-less c = omega arith
 
-loop-again : tie.Need-loop-preserved invariant-loop decreases-loop
+loop-again : tie.Need-loop-j-preserved invariant-loop decreases-loop
 loop-again c =
-    let i = c.before.before.before.before in
-    (omega arith, rw length-set i.loop.invariant.1, raised-turn _ _ _ _ _ _ (omega arith) i.loop.invariant.2 (rw c.before.before.greatest-of-four.ensures at c.larger.ensures))
+    let i = c in
+    (omega arith, rw length-set i.loop-j.invariant.1, raised-turn _ _ _ _ _ _ (omega arith) i.loop-j.invariant.2 (rw c.greatest_of_four-b.ensures at c.larger.ensures))
 
-same_length : tie.Need-same-length invariant-loop decreases-loop
+same_length : tie.Need-shape_of-tops invariant-loop decreases-loop
 same_length c = omega arith
 
 returns : tie.Need-returns invariant-loop decreases-loop
 returns c j h =
-    let e : c.before.loop.j ≡ 128 = omega arith in
-    c.before.loop.invariant.2.raised j (rw e h)
+    let e : c.loop-j.j ≡ 128 = omega arith in
+    c.loop-j.invariant.2.raised j (rw e h)
 
 pub raise_spec : {M : Type 1} → statement M
 raise_spec =

@@ -13,66 +13,66 @@ use Rattle.fits.proofs.FirstBytes.{TopsOf, tops_none, tops_turn, size-pos, rows_
 use Rattle.fits.proofs.rows_below.Statement.{statement}
 use Rattle.fits.proofs.rows_below.Tie as tie
 
-abbrev invariant-loop : tie.invariant-loop
+abbrev invariant-loop : tie.invariant-loop-k
 invariant-loop dat size in_row fours limit tops₀ k₀ tops k = (k ≤ fours) × (length tops ≡ 128) × TopsOf dat tops (k * 4)
 
-abbrev decreases-loop : tie.decreases-loop
+abbrev decreases-loop : tie.decreases-loop-k
 decreases-loop dat size in_row fours limit tops₀ k₀ tops k = fours - k
 
 no_rows : (fours n : ℕ) (f : ℕ → Bool) → fours ≡ 0 → all_below (fours * n) f ≡ true
 unfolding all_below
 no_rows fours n f e = ap (λ (k : ℕ). all_below (k * n) f) e ∙ ap (λ (k : ℕ). all_below k f) (zero-mul n)
 
-returns : tie.Need-returns invariant-loop decreases-loop
-returns c = sym (no_rows _ _ _ c.if1.true)
+returns : tie.Need-returns-then-fours-eq0 invariant-loop decreases-loop
+returns c = sym (no_rows _ _ _ c.if-fours-eq0.true)
 
-zeros-requires : tie.Need-zeros-requires invariant-loop decreases-loop
+zeros-requires : tie.Need-zeros-tops-requires invariant-loop decreases-loop
 zeros-requires c κs = search rules
 
-loop-holds : tie.Need-loop-init invariant-loop decreases-loop
-loop-holds c = (omega arith, ap length c.zeros.ensures ∙ length-replicate {A = ℕ} 128 0, tops_none _ _ c.zeros.ensures)
+loop-holds : tie.Need-loop-k-init invariant-loop decreases-loop
+loop-holds c = (omega arith, ap length c.zeros-tops.ensures ∙ length-replicate {A = ℕ} 128 0, tops_none _ _ c.zeros-tops.ensures)
 
-slice-aggregate-raise : tie.Need-slice-aggregate-raise invariant-loop decreases-loop
-slice-aggregate-raise c = sym c.before.before.loop.invariant.1
+slice-aggregate-raise : tie.Need-slice_bounds-raise-end invariant-loop decreases-loop
+slice-aggregate-raise c = sym c.loop-k.invariant.1
 
-mul-raise : tie.Need-overflow-mul-raise invariant-loop decreases-loop
+mul-raise : tie.Need-overflow_mul-raise invariant-loop decreases-loop
 mul-raise c = omega arith
 
-mul-raise-2 : tie.Need-overflow-mul-raise-2 invariant-loop decreases-loop
+mul-raise-2 : tie.Need-overflow_mul-k invariant-loop decreases-loop
 mul-raise-2 c = omega arith
 
 raise-requires : tie.Need-raise-requires invariant-loop decreases-loop
 raise-requires c κs = omega arith
 
-add-k : tie.Need-overflow-add-k invariant-loop decreases-loop
+add-k : tie.Need-overflow_step-k invariant-loop decreases-loop
 add-k c = omega arith
 
-loop-less : tie.Need-loop-smaller invariant-loop decreases-loop
+loop-less : tie.Need-loop-k-smaller invariant-loop decreases-loop
 loop-less c = omega arith
 
-loop-again : tie.Need-loop-preserved invariant-loop decreases-loop
+loop-again : tie.Need-loop-k-preserved invariant-loop decreases-loop
 loop-again c =
-    let head = c.before.before.before.before in
-    (omega arith, omega (arith, c.before.raise.auto), tops_turn head.before.before.before.before.args.dat.now _ _ _ head.loop.invariant.2 c.before.raise.ensures)
+    let head = c in
+    (omega arith, omega (arith, c.raise.auto), tops_turn head.args.dat.now _ _ _ head.loop-k.invariant.2 c.raise.ensures)
 
-slice-aggregate-all-below : tie.Need-slice-aggregate-all-below invariant-loop decreases-loop
-slice-aggregate-all-below c = sym c.before.before.loop.invariant.1
+slice-aggregate-all-below : tie.Need-slice_bounds-all_below-end invariant-loop decreases-loop
+slice-aggregate-all-below c = sym c.loop-k.invariant.1
 
-all-below-requires : tie.Need-all-below-requires invariant-loop decreases-loop
+all-below-requires : tie.Need-all_below-requires invariant-loop decreases-loop
 all-below-requires c κs =
-    let a = c.before.before.before.before.before.before.args in
-    let e = c.before.before.before.before.before.before.requires.0 in
+    let a = c.args in
+    let e = c.requires.0 in
     (size-pos a.size a.in_row e, omega arith)
 
-returns-2 : tie.Need-returns-2 invariant-loop decreases-loop
+returns-2 : tie.Need-returns invariant-loop decreases-loop
 returns-2 c =
-    let head = c.before.before.before in
-    let start = head.before.before.before.before in
+    let head = c in
+    let start = head in
     let a = start.args in
-    let all : head.loop.k * 4 ≡ a.fours * 4 = omega arith in
-    c.all-below.ensures
-    ∙ rows_same a.dat.now head.loop.tops a.size a.in_row (a.fours * 4) a.limit start.requires.0 start.requires.2
-    (subst (TopsOf a.dat.now head.loop.tops) all head.loop.invariant.2)
+    let all : head.loop-k.k * 4 ≡ a.fours * 4 = omega arith in
+    c.all_below.ensures
+    ∙ rows_same a.dat.now head.loop-k.tops a.size a.in_row (a.fours * 4) a.limit start.requires.0 start.requires.2
+    (subst (TopsOf a.dat.now head.loop-k.tops) all head.loop-k.invariant.2)
     ∙ ap (λ (n : ℕ). all_below n (λ k. ltb (get_or a.dat.now (k * a.size) 0) a.limit)) (mul_assoc a.fours 4 a.in_row)
 
 pub rows_below_spec : {M : Type 1} → statement M

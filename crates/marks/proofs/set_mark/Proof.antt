@@ -5,26 +5,26 @@ use Rattle.marks.proofs.Words.{set_word}
 use Rattle.marks.proofs.set_mark.Statement.{statement}
 use Rattle.marks.proofs.set_mark.Tie as tie
 
-mul-marks : tie.Need-overflow-mul-marks
+mul-marks : tie.Need-offset_bounds-marks-word
 mul-marks c = search rules
 
-slice-read-marks : tie.Need-slice-read-marks
+slice-read-marks : tie.Need-bounds-marks-word
 slice-read-marks c = search rules
 
-shl-marks : tie.Need-overflow-shl-marks
+shl-marks : tie.Need-overflow_shl-marks
 shl-marks c = search rules
 
-mul-marks-2 : tie.Need-overflow-mul-marks-2
+mul-marks-2 : tie.Need-offset_bounds-marks-word-2
 mul-marks-2 c = search rules
 
-slice-write-marks : tie.Need-slice-write-marks
+slice-write-marks : tie.Need-bounds-marks-word-2
 slice-write-marks c = search rules
 
-same_length : tie.Need-same-length
+same_length : tie.Need-shape_of-marks
 same_length c = search rules
 
 returns : tie.Need-returns
-returns c = set_word c.before.args.marks.now c.before.args.i
+returns c = set_word c.args.marks.now c.args.i
 
 pub set_mark_spec : {M : Type 1} → statement M
 set_mark_spec =

@@ -16,138 +16,138 @@ use Rattle.rows.proofs.WholeBytes.{last_row, rows-end-beside, rows_written_lem}
 use Rattle.rows.proofs.write_rows.Statement.{statement}
 use Rattle.rows.proofs.write_rows.Tie as tie
 
-abbrev invariant-loop : tie.invariant-loop
+abbrev invariant-loop : tie.invariant-loop-i
 invariant-loop dat from line size img₀ at row step width count rows i₀ img i =
     (i ≤ rows) × (length img ≡ length img₀) × (img ≡ iter i (row_written dat from line size width at row step count)
     img₀)
 
-abbrev decreases-loop : tie.decreases-loop
+abbrev decreases-loop : tie.decreases-loop-i
 decreases-loop dat from line size img₀ at row step width count rows i₀ img i = rows - i
 
 -- rows that follow each other: the one row can be written, and its samples can be counted
-one : (c : tie.Then3 invariant-loop decreases-loop)
-    → let a = c.before.before.before.before.before.args in
+one : (c : tie.Then-line-count invariant-loop decreases-loop)
+    → let a = c.args in
     let n = a.rows * a.count in
     Movable (length a.img.now) a.at a.step a.width a.size n
     × (a.from + n * a.size ≤ length a.dat.now) × (n ≤ length a.dat.now)
 one c =
-    let p = c.before.before.before.before.before.requires.1 in
-    one-row _ _ _ _ _ _ _ (eqb-true _ _ c.before.if2.true) (eqb-true _ _ c.if3.true) _ _
-    (c.before.before.if1.true, p.1.0.0, p.1.0.1) p.0
+    let p = c.requires.1 in
+    one-row _ _ _ _ _ _ _ c.if-row-count.true c.if-line-count.true _ _
+    (c.if-size-gt0.true, p.1.0.0, p.1.0.1) p.0
 
 -- in a turn: row i can be written, and ends within the rows
-row_in : (c : tie.In-loop invariant-loop decreases-loop)
-    → let a = c.before.before.before.before.before.before.args in
-    Movable (length a.img.now) (a.at + c.before.loop.i * a.row) a.step a.width a.size a.count
-    × Ends c.before.loop.i a.rows a.row a.line
+row_in : (c : tie.In-loop-i invariant-loop decreases-loop)
+    → let a = c.args in
+    Movable (length a.img.now) (a.at + c.loop-i.i * a.row) a.step a.width a.size a.count
+    × Ends c.loop-i.i a.rows a.row a.line
 row_in c =
-    let s = c.before.before.before.before.before.before in
-    (s.requires.1.0 c.before.loop.i c.loop-test.true, ends c.before.loop.i _ _ _ c.loop-test.true)
+    let s = c in
+    (s.requires.1.0 c.loop-i.i c.loop-i-test.true, ends c.loop-i.i _ _ _ c.loop-i-test.true)
 
-mul-if2 : tie.Need-overflow-mul-if2 invariant-loop decreases-loop
-mul-if2 c = let p = c.before.before.before.requires.1 in omega (arith, (p.0 0 p.1.0.0).fits)
+mul-if2 : tie.Need-overflow_mul-count invariant-loop decreases-loop
+mul-if2 c = let p = c.requires.1 in omega (arith, (p.0 0 p.1.0.0).fits)
 
-mul-if3 : tie.Need-overflow-mul-if3 invariant-loop decreases-loop
+mul-if3 : tie.Need-overflow_mul-count-then-row-count invariant-loop decreases-loop
 mul-if3 c =
-    let s = c.before.before.before.before in
+    let s = c in
     omega (arith, s.requires.1.1.0, last_row _ s.args.line s.requires.1.1.0.0)
 
-mul-write-samples : tie.Need-overflow-mul-write-samples invariant-loop decreases-loop
+mul-write-samples : tie.Need-overflow_mul-rows invariant-loop decreases-loop
 mul-write-samples c = omega (arith, (one c.before).2)
 
-write-samples-requires : tie.Need-write-samples-requires invariant-loop decreases-loop
+write-samples-requires : tie.Need-write_samples-requires invariant-loop decreases-loop
 write-samples-requires c κs =
     let b = c.before in
-    let p = b.before.before.before.before.before.requires in
+    let p = b.requires in
     let r = one b in (
       (p.0.0, p.0.1, r.1),
       (
         r.0.whole,
-        ((r.0.fits, r.0.inside), λ l. fit_as_one _ _ _ _ _ _ (eqb-true _ _ b.if3.true) (p.1.1.1 l)),
+        ((r.0.fits, r.0.inside), λ l. fit_as_one _ _ _ _ _ _ b.if-line-count.true (p.1.1.1 l)),
       ),
     )
 
-same_length : tie.Need-same-length invariant-loop decreases-loop
+same_length : tie.Need-shape_of-img-then-line-count invariant-loop decreases-loop
 same_length c = search rules
 
-returns : tie.Need-returns invariant-loop decreases-loop
+returns : tie.Need-returns-then-line-count invariant-loop decreases-loop
 returns c =
-    let b = c.before.before.before.before in
-    written_as_one _ _ _ _ _ _ _ (eqb-true _ _ b.before.if2.true) (eqb-true _ _ b.if3.true) _ _
-    c.before.before.write-samples.ensures
+    let b = c in
+    written_as_one _ _ _ _ _ _ _ b.if-row-count.true b.if-line-count.true _ _
+    c.write_samples.ensures
 
-mul-if5 : tie.Need-overflow-mul-if5 invariant-loop decreases-loop
-mul-if5 c = omega (arith, c.before.before.before.before.requires.0.1)
+mul-if5 : tie.Need-overflow_mul-size invariant-loop decreases-loop
+mul-if5 c = omega (arith, c.requires.0.1)
 
-copy-rows-requires : tie.Need-copy-rows-requires invariant-loop decreases-loop
+copy-rows-requires : tie.Need-copy_rows-requires invariant-loop decreases-loop
 copy-rows-requires c κs =
-    let b = c.before in
-    let p = b.before.before.before.before.before.requires.1 in
-    (p.1.0, rows-end-beside _ _ _ _ _ _ _ _ (eqb-true _ _ b.if5.true) p.0 b.before.if4.true p.1.0.0)
+    let b = c in
+    let p = b.requires.1 in
+    (p.1.0, rows-end-beside _ _ _ _ _ _ _ _ b.if-width-size.true p.0 b.if-step-width.true p.1.0.0)
 
-same-length-2 : tie.Need-same-length-2 invariant-loop decreases-loop
+same-length-2 : tie.Need-shape_of-img-then-width-size invariant-loop decreases-loop
 same-length-2 c = search rules
 
-returns-2 : tie.Need-returns-2 invariant-loop decreases-loop
+returns-2 : tie.Need-returns-then-width-size invariant-loop decreases-loop
 returns-2 c =
     let b = c.before.before.before.before in
-    let known = b.before.before.before in
-    rows_written_lem _ _ _ _ _ _ _ _ (eqb-true _ _ b.if5.true) known.before.before.requires.1.0
-    b.before.if4.true _ _ _ _ (λ i. (known.before.shared-slice-known.given i).fits)
-    (λ i. (known.slice-known.given i).fits) (omega arith) c.before.before.copy-rows.ensures
+    let known = b in
+    rows_written_lem _ _ _ _ _ _ _ _ b.if-width-size.true known.requires.1.0
+    b.if-step-width.true _ _ _ _ (λ i. (known.shared_slice_known-1.given i).fits)
+    (λ i. (known.slice_known-1.given i).fits) (omega arith) c.copy_rows.ensures
 
-loop-holds : tie.Need-loop-init invariant-loop decreases-loop
+loop-holds : tie.Need-loop-i-init invariant-loop decreases-loop
 loop-holds c = (omega arith, refl, iter-none _ _)
 
-mul-write-samples-2 : tie.Need-overflow-mul-write-samples-2 invariant-loop decreases-loop
+mul-write-samples-2 : tie.Need-overflow_mul-i invariant-loop decreases-loop
 mul-write-samples-2 c = omega (arith, (row_in c).1)
 
-add-write-samples : tie.Need-overflow-add-write-samples invariant-loop decreases-loop
+add-write-samples : tie.Need-overflow_add-from invariant-loop decreases-loop
 add-write-samples c = omega (arith, (row_in c).1)
 
-mul-write-samples-3 : tie.Need-overflow-mul-write-samples-3 invariant-loop decreases-loop
+mul-write-samples-3 : tie.Need-overflow_mul-i-in-loop-i invariant-loop decreases-loop
 mul-write-samples-3 c = omega (arith, (row_in c.before).0.fits)
 
-add-write-samples-2 : tie.Need-overflow-add-write-samples-2 invariant-loop decreases-loop
+add-write-samples-2 : tie.Need-overflow_add-at invariant-loop decreases-loop
 add-write-samples-2 c = omega (arith, (row_in c.before).0.fits)
 
-write-samples-requires-2 : tie.Need-write-samples-requires-2 invariant-loop decreases-loop
+write-samples-requires-2 : tie.Need-write_samples-requires-in-loop-i invariant-loop decreases-loop
 write-samples-requires-2 c κs =
-    let s = c.before.before.before.before.before.before.before in
+    let s = c in
     let p = s.requires.0 in
     let r = row_in c.before in (
       (p.0, p.1, omega (arith, s.requires.1.1.0.1, r.1)),
       (
         r.0.whole,
         (
-          (r.0.fits, omega (arith, r.0.inside, c.before.before.loop.invariant.1)),
-          λ l. s.requires.1.1.1 l c.before.before.loop.i c.before.loop-test.true,
+          (r.0.fits, omega (arith, r.0.inside, c.loop-i.invariant.1)),
+          λ l. s.requires.1.1.1 l c.loop-i.i c.loop-i-test.true,
         ),
       ),
     )
 
-add-i : tie.Need-overflow-add-i invariant-loop decreases-loop
+add-i : tie.Need-overflow_step-i invariant-loop decreases-loop
 add-i c = omega arith
 
-loop-less : tie.Need-loop-smaller invariant-loop decreases-loop
+loop-less : tie.Need-loop-i-smaller invariant-loop decreases-loop
 loop-less c = omega arith
 
-loop-again : tie.Need-loop-preserved invariant-loop decreases-loop
+loop-again : tie.Need-loop-i-preserved invariant-loop decreases-loop
 loop-again c =
     let call = c.before.before in
-    let head = call.before.before.before in (
+    let head = call in (
       omega arith,
-      omega (arith, call.write-samples2.auto),
-      iter_turn _ _ head.loop.i head.loop.invariant.2 call.write-samples2.ensures,
+      omega (arith, call.write_samples-in-loop-i.auto),
+      iter_turn _ _ head.loop-i.i head.loop-i.invariant.2 call.write_samples-in-loop-i.ensures,
     )
 
-same-length-3 : tie.Need-same-length-3 invariant-loop decreases-loop
-same-length-3 c = c.before.loop.invariant.1
+same-length-3 : tie.Need-shape_of-img invariant-loop decreases-loop
+same-length-3 c = c.loop-i.invariant.1
 
-returns-3 : tie.Need-returns-3 invariant-loop decreases-loop
+returns-3 : tie.Need-returns invariant-loop decreases-loop
 returns-3 c =
-    let e : c.before.loop.i ≡ c.before.before.before.before.before.before.args.rows = omega arith in
-    c.before.loop.invariant.2 ∙ rw e
+    let e : c.loop-i.i ≡ c.args.rows = omega arith in
+    c.loop-i.invariant.2 ∙ rw e
 
 pub write_rows_spec : {M : Type 1} → statement M
 write_rows_spec =

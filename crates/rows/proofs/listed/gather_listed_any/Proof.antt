@@ -12,48 +12,48 @@ use Rattle.rows.specs.Internal.Rows.{pixel_read}
 use Rattle.rows.proofs.listed.gather_listed_any.Statement.{statement}
 use Rattle.rows.proofs.listed.gather_listed_any.Tie as tie
 
-abbrev invariant-loop : tie.invariant-loop
+abbrev invariant-loop : tie.invariant-loop-c
 invariant-loop src at pixel size list count out₀ to plane c₀ out c =
     (c ≤ count) × (length out ≡ length out₀) × (out ≡ iter c (pixel_read src list at pixel size to plane) out₀)
 
-abbrev decreases-loop : tie.decreases-loop
+abbrev decreases-loop : tie.decreases-loop-c
 decreases-loop src at pixel size list count out₀ to plane c₀ out c = count - c
 
 -- in a turn: pixel c ends within the pixels
-ends_in : (c : tie.In-loop invariant-loop decreases-loop) → let a =
-    c.before.before.before.before.before.args in Ends c.before.loop.c a.count a.pixel a.size
+ends_in : (c : tie.In-loop-c invariant-loop decreases-loop) → let a =
+    c.args in Ends c.loop-c.c a.count a.pixel a.size
 ends_in c =
-    let a = c.before.before.before.before.before.args in ends c.before.loop.c a.count a.pixel
-    a.size c.loop-test.true
+    let a = c.args in ends c.loop-c.c a.count a.pixel
+    a.size c.loop-c-test.true
 
 -- and there is a band
-some : (c : tie.In-loop invariant-loop decreases-loop)
-    → let a = c.before.before.before.before.before.args in
+some : (c : tie.In-loop-c invariant-loop decreases-loop)
+    → let a = c.args in
     (a.at + a.count * a.pixel ≤ length a.src.now + a.pixel)
     × (1 * a.plane ≤ length a.list.now * a.plane)
 some c =
-    let s = c.before.before.before.before.before in
+    let s = c in
     (omega (arith, s.requires.inside 0 s.requires.some), mul-le-mul_right s.args.plane s.requires.some)
 
-loop-holds : tie.Need-loop-init invariant-loop decreases-loop
+loop-holds : tie.Need-loop-c-init invariant-loop decreases-loop
 loop-holds c = (omega arith, refl, iter-none _ _)
 
-mul-gather-pixel : tie.Need-overflow-mul-gather-pixel invariant-loop decreases-loop
+mul-gather-pixel : tie.Need-overflow_mul-c invariant-loop decreases-loop
 mul-gather-pixel c = omega (arith, ends_in c, some c)
 
-add-gather-pixel : tie.Need-overflow-add-gather-pixel invariant-loop decreases-loop
+add-gather-pixel : tie.Need-overflow_add-at invariant-loop decreases-loop
 add-gather-pixel c = omega (arith, ends_in c, some c)
 
-mul-gather-pixel-2 : tie.Need-overflow-mul-gather-pixel-2 invariant-loop decreases-loop
+mul-gather-pixel-2 : tie.Need-overflow_mul-c-in-loop-c invariant-loop decreases-loop
 mul-gather-pixel-2 c = omega (arith, ends_in c.before, some c.before)
 
-add-gather-pixel-2 : tie.Need-overflow-add-gather-pixel-2 invariant-loop decreases-loop
+add-gather-pixel-2 : tie.Need-overflow_add-to invariant-loop decreases-loop
 add-gather-pixel-2 c = omega (arith, ends_in c.before, some c.before)
 
-gather-pixel-requires : tie.Need-gather-pixel-requires invariant-loop decreases-loop
+gather-pixel-requires : tie.Need-gather_pixel-requires invariant-loop decreases-loop
 gather-pixel-requires c κs =
     let turn = c.before in
-    let s = turn.before.before.before.before.before in
+    let s = turn in
     record {
       size-le = s.requires.size-le;
       some = s.requires.some;
@@ -61,30 +61,30 @@ gather-pixel-requires c κs =
       room = omega (arith, s.requires.room, ends_in turn);
     }
 
-add-c : tie.Need-overflow-add-c invariant-loop decreases-loop
+add-c : tie.Need-overflow_step-c invariant-loop decreases-loop
 add-c c = omega arith
 
-loop-less : tie.Need-loop-smaller invariant-loop decreases-loop
+loop-less : tie.Need-loop-c-smaller invariant-loop decreases-loop
 loop-less c = omega arith
 
-loop-again : tie.Need-loop-preserved invariant-loop decreases-loop
+loop-again : tie.Need-loop-c-preserved invariant-loop decreases-loop
 loop-again c =
     let call = c.before.before in
-    let head = call.before.before.before in
-    let a = head.before.before.before.before.args in (
+    let head = call in
+    let a = head.args in (
       omega arith,
-      omega (arith, call.gather-pixel.auto),
+      omega (arith, call.gather_pixel.auto),
       iter_turn (pixel_read a.src.now a.list.now a.at a.pixel a.size a.to a.plane)
-          a.out.now head.loop.c head.loop.invariant.2 call.gather-pixel.ensures,
+          a.out.now head.loop-c.c head.loop-c.invariant.2 call.gather_pixel.ensures,
     )
 
-same_length : tie.Need-same-length invariant-loop decreases-loop
-same_length c = c.before.loop.invariant.1
+same_length : tie.Need-shape_of-out invariant-loop decreases-loop
+same_length c = c.loop-c.invariant.1
 
 returns : tie.Need-returns invariant-loop decreases-loop
 returns c =
-    let e : c.before.loop.c ≡ c.before.before.before.before.before.args.count
-    = omega arith in c.before.loop.invariant.2 ∙ rw e
+    let e : c.loop-c.c ≡ c.args.count
+    = omega arith in c.loop-c.invariant.2 ∙ rw e
 
 pub gather_listed_any_spec : {M : Type 1} → statement M
 gather_listed_any_spec =

@@ -19,94 +19,94 @@ one_value : (v s : ℕ) → be_bytes s v ≡ values (λ j. v) s 1
 unfolding values
 one_value v s = refl
 
-abbrev invariant-loop : tie.invariant-loop
+abbrev invariant-loop : tie.invariant-loop-k
 invariant-loop src at size list out₀ to plane k₀ k-end out k =
     (k ≤ k-end) × (length out ≡ length out₀) × (out ≡ iter k (sample_read src list at size to plane) out₀)
 
-abbrev decreases-loop : tie.decreases-loop
+abbrev decreases-loop : tie.decreases-loop-k
 decreases-loop src at size list out₀ to plane k₀ k-end out k = k-end - k
 
-loop-holds : tie.Need-loop-init invariant-loop decreases-loop
+loop-holds : tie.Need-loop-k-init invariant-loop decreases-loop
 loop-holds c = (omega arith, refl, iter-none _ _)
 
 -- in a turn: the band's sample ends within `src`, and its place within `out`
-in_src : (c : tie.After-shared-slice-known3 invariant-loop decreases-loop)
-    → let a = c.before.before.before.before.before.before.args in
-    a.at + get_or a.list.now c.before.before.loop.k 0 * a.size + a.size ≤ length a.src.now
+in_src : (c : tie.After-shared_slice_known-in-loop-k-1 invariant-loop decreases-loop)
+    → let a = c.args in
+    a.at + get_or a.list.now c.loop-k.k 0 * a.size + a.size ≤ length a.src.now
 in_src c =
-    let s = c.before.before.before.before.before.before in
-    omega (arith, s.requires.inside c.before.before.loop.k (omega (arith, c.before.loop-test.true)))
+    let s = c in
+    omega (arith, s.requires.inside c.loop-k.k (omega (arith, c.loop-k-test.true)))
 
-in_out : (c : tie.After-shared-slice-known3 invariant-loop decreases-loop)
-    → let a = c.before.before.before.before.before.before.args in
-    a.to + c.before.before.loop.k * a.plane + a.size ≤ length a.out.now
+in_out : (c : tie.After-shared_slice_known-in-loop-k-1 invariant-loop decreases-loop)
+    → let a = c.args in
+    a.to + c.loop-k.k * a.plane + a.size ≤ length a.out.now
 in_out c =
-    let s = c.before.before.before.before.before.before in
+    let s = c in
     omega (
       arith,
       s.requires.room,
-      within c.before.before.loop.k (length s.args.list.now) s.args.plane
-          (omega (arith, c.before.loop-test.true)),
+      within c.loop-k.k (length s.args.list.now) s.args.plane
+          (omega (arith, c.loop-k-test.true)),
     )
 
-mul-get-be : tie.Need-overflow-mul-get-be invariant-loop decreases-loop
+mul-get-be : tie.Need-offset_bounds-list-k invariant-loop decreases-loop
 mul-get-be c = search rules
 
-shared-slice-read-get-be : tie.Need-shared-slice-read-get-be invariant-loop decreases-loop
+shared-slice-read-get-be : tie.Need-bounds-list-k invariant-loop decreases-loop
 shared-slice-read-get-be c = search rules
 
-cast-get-be : tie.Need-overflow-cast-get-be invariant-loop decreases-loop
-cast-get-be c = omega (arith, c.shared-slice-known3.given c.before.before.loop.k)
+cast-get-be : tie.Need-overflow_cast-list invariant-loop decreases-loop
+cast-get-be c = omega (arith, c.shared_slice_known-in-loop-k-1.given c.loop-k.k)
 
-mul-get-be-2 : tie.Need-overflow-mul-get-be-2 invariant-loop decreases-loop
+mul-get-be-2 : tie.Need-overflow_mul-list invariant-loop decreases-loop
 mul-get-be-2 c = omega (arith, in_src c)
 
-add-get-be : tie.Need-overflow-add-get-be invariant-loop decreases-loop
+add-get-be : tie.Need-overflow_add-at invariant-loop decreases-loop
 add-get-be c = omega (arith, in_src c)
 
-get-be-requires : tie.Need-get-be-requires invariant-loop decreases-loop
-get-be-requires c κs = (c.before.before.before.before.before.before.requires.size-le, in_src c)
+get-be-requires : tie.Need-get_be-v-requires invariant-loop decreases-loop
+get-be-requires c κs = (c.requires.size-le, in_src c)
 
-mul-put-be : tie.Need-overflow-mul-put-be invariant-loop decreases-loop
+mul-put-be : tie.Need-overflow_mul-k invariant-loop decreases-loop
 mul-put-be c = omega (arith, in_out c.before.before)
 
-add-put-be : tie.Need-overflow-add-put-be invariant-loop decreases-loop
+add-put-be : tie.Need-overflow_add-to invariant-loop decreases-loop
 add-put-be c = omega (arith, in_out c.before.before)
 
-put-be-requires : tie.Need-put-be-requires invariant-loop decreases-loop
+put-be-requires : tie.Need-put_be-requires invariant-loop decreases-loop
 put-be-requires c κs = (
-  c.before.before.before.before.before.before.before.before.requires.size-le,
+  c.requires.size-le,
   omega
       (arith, in_out c.before.before),
 )
 
-add-k : tie.Need-overflow-add-k invariant-loop decreases-loop
+add-k : tie.Need-overflow_step-k invariant-loop decreases-loop
 add-k c = omega arith
 
-loop-less : tie.Need-loop-smaller invariant-loop decreases-loop
+loop-less : tie.Need-loop-k-smaller invariant-loop decreases-loop
 loop-less c = omega arith
 
-loop-again : tie.Need-loop-preserved invariant-loop decreases-loop
+loop-again : tie.Need-loop-k-preserved invariant-loop decreases-loop
 loop-again c =
     let call = c.before.before in
     let turn = call.before.before.before in
-    let head = turn.before.before in
-    let a = head.before.before.before.before.args in (
+    let head = turn in
+    let a = head.args in (
       omega arith,
-      omega (arith, call.put-be.auto),
+      omega (arith, call.put_be.auto),
       iter_turn (sample_read a.src.now a.list.now a.at a.size a.to a.plane)
-          a.out.now head.loop.k head.loop.invariant.2
-          (call.put-be.ensures ∙ ap (over head.loop.out (a.to + head.loop.k * a.plane))
-          (ap (be_bytes a.size) call.before.before.get-be.ensures ∙ one_value _ a.size)),
+          a.out.now head.loop-k.k head.loop-k.invariant.2
+          (call.put_be.ensures ∙ ap (over head.loop-k.out (a.to + head.loop-k.k * a.plane))
+          (ap (be_bytes a.size) call.get_be-v.ensures ∙ one_value _ a.size)),
     )
 
-same_length : tie.Need-same-length invariant-loop decreases-loop
-same_length c = c.before.loop.invariant.1
+same_length : tie.Need-shape_of-out invariant-loop decreases-loop
+same_length c = c.loop-k.invariant.1
 
 returns : tie.Need-returns invariant-loop decreases-loop
 returns c =
-    let e : c.before.loop.k ≡ length c.before.before.before.before.before.args.list.now
-    = omega arith in c.before.loop.invariant.2 ∙ rw e
+    let e : c.loop-k.k ≡ length c.args.list.now
+    = omega arith in c.loop-k.invariant.2 ∙ rw e
 
 pub gather_pixel_spec : {M : Type 1} → statement M
 gather_pixel_spec =

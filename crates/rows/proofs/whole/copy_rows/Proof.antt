@@ -11,66 +11,66 @@ use Rattle.rows.proofs.WholeBytes.{last_row, copied_row}
 use Rattle.rows.proofs.whole.copy_rows.Statement.{statement}
 use Rattle.rows.proofs.whole.copy_rows.Tie as tie
 
-abbrev invariant-loop : tie.invariant-loop
+abbrev invariant-loop : tie.invariant-loop-i
 invariant-loop src at row size count out₀ to line rows n i₀ out i =
     (i ≤ rows) × (length out ≡ length out₀) × (out ≡ whole_rows src at row size size count to line i out₀)
 
-abbrev decreases-loop : tie.decreases-loop
+abbrev decreases-loop : tie.decreases-loop-i
 decreases-loop src at row size count out₀ to line rows n i₀ out i = rows - i
 
 -- in a turn: row i ends within the rows
-ends_in : (c : tie.In-loop invariant-loop decreases-loop)
-    → let a = c.before.before.before.before.args in Ends c.before.loop.i a.rows a.row a.line
-ends_in c = ends c.before.loop.i _ _ _ c.loop-test.true
+ends_in : (c : tie.In-loop-i invariant-loop decreases-loop)
+    → let a = c.args in Ends c.loop-i.i a.rows a.row a.line
+ends_in c = ends c.loop-i.i _ _ _ c.loop-i-test.true
 
-mul-n : tie.Need-overflow-mul-n invariant-loop decreases-loop
-mul-n c = let s = c.before.before in omega (arith, s.requires.1, last_row _ s.args.line s.requires.0.0)
+mul-n : tie.Need-overflow_mul-n invariant-loop decreases-loop
+mul-n c = let s = c in omega (arith, s.requires.1, last_row _ s.args.line s.requires.0.0)
 
-loop-holds : tie.Need-loop-init invariant-loop decreases-loop
+loop-holds : tie.Need-loop-i-init invariant-loop decreases-loop
 loop-holds c = (omega arith, refl, iter-none _ _)
 
-mul-copy : tie.Need-overflow-mul-copy invariant-loop decreases-loop
+mul-copy : tie.Need-overflow_mul-i invariant-loop decreases-loop
 mul-copy c = omega (arith, ends_in c)
 
-add-copy : tie.Need-overflow-add-copy invariant-loop decreases-loop
+add-copy : tie.Need-overflow_add-at invariant-loop decreases-loop
 add-copy c = omega (arith, ends_in c)
 
-mul-copy-2 : tie.Need-overflow-mul-copy-2 invariant-loop decreases-loop
+mul-copy-2 : tie.Need-overflow_mul-i-in-loop-i invariant-loop decreases-loop
 mul-copy-2 c = omega (arith, ends_in c.before)
 
-add-copy-2 : tie.Need-overflow-add-copy-2 invariant-loop decreases-loop
+add-copy-2 : tie.Need-overflow_add-to invariant-loop decreases-loop
 add-copy-2 c = omega (arith, ends_in c.before)
 
 copy-requires : tie.Need-copy-requires invariant-loop decreases-loop
 copy-requires c κs = omega (arith, ends_in c.before)
 
-add-i : tie.Need-overflow-add-i invariant-loop decreases-loop
+add-i : tie.Need-overflow_step-i invariant-loop decreases-loop
 add-i c = omega arith
 
-loop-less : tie.Need-loop-smaller invariant-loop decreases-loop
+loop-less : tie.Need-loop-i-smaller invariant-loop decreases-loop
 loop-less c = omega arith
 
-loop-again : tie.Need-loop-preserved invariant-loop decreases-loop
+loop-again : tie.Need-loop-i-preserved invariant-loop decreases-loop
 loop-again c =
     let call = c.before.before in
     let turn = call.before.before in
     let head = turn.before in
     let known = head.before.before in
-    let s = known.before in (
+    let s = known in (
       omega arith,
       omega (arith, call.copy.auto),
-      iter_turn _ _ head.loop.i head.loop.invariant.2
-          (copied_row _ _ _ _ _ _ _ _ (λ i. (known.shared-slice-known.given i).fits)
+      iter_turn _ _ head.loop-i.i head.loop-i.invariant.2
+          (copied_row _ _ _ _ _ _ _ _ (λ i. (known.shared_slice_known-1.given i).fits)
           (omega (arith, s.requires.0.1, ends_in turn)) call.copy.ensures),
     )
 
-same_length : tie.Need-same-length invariant-loop decreases-loop
-same_length c = c.before.loop.invariant.1
+same_length : tie.Need-shape_of-out invariant-loop decreases-loop
+same_length c = c.loop-i.invariant.1
 
 returns : tie.Need-returns invariant-loop decreases-loop
 returns c =
-    let e : c.before.loop.i ≡ c.before.before.before.before.args.rows = omega arith in
-    c.before.loop.invariant.2 ∙ rw e
+    let e : c.loop-i.i ≡ c.args.rows = omega arith in
+    c.loop-i.invariant.2 ∙ rw e
 
 pub copy_rows_spec : {M : Type 1} → statement M
 copy_rows_spec =

@@ -41,7 +41,7 @@ get-be-requires c κs = omega arith
 append-requires : tie.Need-append-acc-requires invariant-loop decreases-loop
 unfolding side_by_side
 append-requires c κs =
-    let head = c.before.before in
+    let head = c in
     let a = head.args in
     let v : ℕ → ℕ = side_by_side a.dat.now a.from a.size in (
       omega arith,
@@ -58,7 +58,7 @@ loop-less c = omega arith
 loop-again : tie.Need-loop-k-preserved invariant-loop decreases-loop
 unfolding side_by_side
 loop-again c =
-    let head = c.before.before.before in
+    let head = c in
     (omega arith, joined-turn _ _ _ (fit_in c.before.before) head.loop-k.invariant.1 c.get_be-v.ensures c.append-acc.ensures, room-left _ _ _ _ (omega arith))
 
 returns : tie.Need-returns invariant-loop decreases-loop

@@ -34,7 +34,7 @@ mul-done c = omega (arith, groups_in c)
 pack-groups-requires : tie.Need-pack_groups-requires
 pack-groups-requires c κs =
     let there = c.before in
-    let start = there.before.before.before.before.before in
+    let start = there in
     let few : there.group_of-group.result * start.args.width / 8 ≤ 8 = there.if-bytes-le8.true in
     let p = start.requires in
     let e = there.group_of-group.ensures in
@@ -60,7 +60,7 @@ pack-each-requires : tie.Need-pack_each-requires
 pack-each-requires c κs =
     let first = c.before.before.before in
     let there = first.before.before in
-    let s = there.before.before.before.before.before in
+    let s = there in
     let p = s.requires in
     let g = groups_in there in
     let e = first.pack_groups.auto in

@@ -10,7 +10,7 @@ use Rattle.samples.proofs.pack.pack_groups.Tie as tie
 -- pairs of 12 bits fill three bytes
 pairs_in : (c : tie.Then-group-eq2) → let a = c.args in (a.size ≡ 2) × (a.width ≡ 12) × (a.group ≡ 2) × (a.bytes ≡ 3)
 pairs_in c =
-    let start = c.before.before.before.before.before in
+    let start = c in
     let w : start.args.width ≡ 12 = c.if-width-eq12.true in
     let g : start.args.group ≡ 2 = c.if-group-eq2.true in
     (c.if-size-eq2.true, w, g, omega (arith, rw (w, g) at start.requires))

@@ -8,8 +8,8 @@ use Rattle.samples.proofs.pack.pack_side_by_side.Statement.{statement}
 use Rattle.samples.proofs.pack.pack_side_by_side.Tie as tie
 
 -- the two parts of each run
-parts_in : (c : tie.After-before_byte-head) → let a = c.args in Parts c.before-byte.result a.count a.size a.width
-parts_in c = let a = c.args in parts c.before-byte.result a.count a.size a.width c.before-byte.ensures
+parts_in : (c : tie.After-before_byte-head) → let a = c.args in Parts c.before_byte-head.result a.count a.size a.width
+parts_in c = let a = c.args in parts c.before_byte-head.result a.count a.size a.width c.before_byte-head.ensures
 
 before-byte-requires : tie.Need-before_byte-head-requires
 before-byte-requires c κs = search rules
@@ -37,7 +37,7 @@ sub-pack-grouped c = search rules
 pack-grouped-requires : tie.Need-pack_grouped-requires
 pack-grouped-requires c κs =
     let first = c.before.before.before in
-    let start = first.before.before.before.before.before in
+    let start = first in
     let p = start.requires in
     let q = parts_in first.before.before in
     let l = first.pack_each.auto in
@@ -50,9 +50,9 @@ returns : tie.Need-returns
 returns c =
     let rest = c.before.before in
     let first = rest.before.before.before.before in
-    let head = first.before.before in
+    let head = first in
     let a = head.args in
-    put_rest a.dat.now a.from a.size a.width a.at a.width head.before-byte.result a.count a.img.now head.before-byte.ensures
+    put_rest a.dat.now a.from a.size a.width a.at a.width head.before_byte-head.result a.count a.img.now head.before_byte-head.ensures
     first.pack_each.ensures rest.pack_grouped.ensures
 
 pub pack_side_by_side_spec : {M : Type 1} → statement M

@@ -34,7 +34,7 @@ returns c =
     let put = c.before.before in
     let changed = put.before in
     let got = changed.before.before in
-    let known = got.before.before in
+    let known = got in
     let a = known.args in
     put_bits-within a.img.now a.at a.width (8 * a.n - a.at % 8 - a.width) a.n a.v (λ i. (known.slice_known-1.given i).fits)
     (omega (arith, known.requires)) (omega (arith, known.requires)) got.get_be-x.ensures (rw (mod-eq_of_lt known.requires.1) changed.exchange.ensures) put.put_be.ensures

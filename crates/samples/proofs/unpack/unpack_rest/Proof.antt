@@ -46,7 +46,7 @@ loop-less c = omega arith
 loop-again : tie.Need-loop-k-preserved invariant-loop decreases-loop
 unfolding spaced
 loop-again c =
-    let put = c.before.before in let got = put.before.before in let head = got.before.before in
+    let put = c.before.before in let got = put.before.before in let head = got in
     one_more head.loop-k.invariant (omega (arith, put.put_be.auto))
     (values-turn _ _ _ _ _ (omega arith) head.loop-k.invariant.1 got.get_packed-v.ensures put.put_be.ensures)
 
