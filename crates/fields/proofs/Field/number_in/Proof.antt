@@ -9,19 +9,19 @@ use Rattle.fields.proofs.Entries.{length-bytes_in}
 use Rattle.fields.proofs.Field.number_in.Statement.{statement}
 use Rattle.fields.proofs.Field.number_in.Tie as tie
 
-bytes-in-requires : tie.Need-bytes-in-requires
+bytes-in-requires : tie.Need-bytes_in-requires
 bytes-in-requires c κs = search rules
 
-number-of-requires : tie.Need-number-of-requires
+number-of-requires : tie.Need-number_of-requires
 number-of-requires c κs =
-    let s = c.before.before in
-    let e = c.bytes-in.ensures in
-    let l : length c.bytes-in.result.now ≡ s.args.self.size =
+    let s = c in
+    let e = c.bytes_in.ensures in
+    let l : length c.bytes_in.result.now ≡ s.args.self.size =
     ap length e ∙ length-bytes_in s.args.part.now s.args.self s.requires.0.0 in
     (omega (arith, l, s.requires.0.1), ap are_digits e ∙ s.requires.1)
 
 returns : tie.Need-returns
-returns c = c.number-of.ensures ∙ ap number_of c.before.bytes-in.ensures
+returns c = c.number_of.ensures ∙ ap number_of c.bytes_in.ensures
 
 pub number_in_spec : {M : Type 1} → statement M
 number_in_spec = tie.close (tie.spec bytes-in-requires number-of-requires returns)

@@ -14,34 +14,34 @@ use Rattle.fields.proofs.Entries.{length-bytes_in, put-part}
 use Rattle.fields.proofs.Field.put_number.Statement.{statement}
 use Rattle.fields.proofs.Field.put_number.Tie as tie
 
-add-end : tie.Need-overflow-add-end
+add-end : tie.Need-overflow_add-end
 add-end c = search rules
 
-sub-put-digits : tie.Need-overflow-sub-put-digits
+sub-put-digits : tie.Need-slice_bounds-put_digits-count
 sub-put-digits c = search rules
 
-part-put-digits-start : tie.Need-slice-bounds-put-digits-start
+part-put-digits-start : tie.Need-slice_bounds-put_digits-start
 part-put-digits-start c = search rules
 
-part-put-digits-end : tie.Need-slice-bounds-put-digits-end
+part-put-digits-end : tie.Need-slice_bounds-put_digits-end
 part-put-digits-end c = search rules
 
-put-digits-requires : tie.Need-put-digits-requires
+put-digits-requires : tie.Need-put_digits-requires
 put-digits-requires c κs = search rules
 
-same_length : tie.Need-same-length
+same_length : tie.Need-shape_of-part
 same_length c = search rules
 
 returns : tie.Need-returns
 unfolding bytes_in
 returns c =
-    let s = c.before.before.before.before.before.before in
+    let s = c in
     let f = s.args.self in
     let d : List ℕ = s.args.part.now in
     let e : f.at + f.size - f.at ≡ f.size = omega arith in
     let n : length (take (f.at + f.size - f.at) (drop f.at d)) ≡ f.size = rw e (length-bytes_in d f s.requires) in
-    let v : List ℕ = c.before.before.put-digits.new.0 in
-    let q : v ≡ digit_bytes f.size s.args.value = c.before.before.put-digits.ensures ∙ ap (λ (k : ℕ). digit_bytes k s.args.value) n in
+    let v : List ℕ = c.put_digits.new.0 in
+    let q : v ≡ digit_bytes f.size s.args.value = c.put_digits.ensures ∙ ap (λ (k : ℕ). digit_bytes k s.args.value) n in
     ap (λ (k : ℕ). take f.at d ++ (v ++ drop k (drop f.at d))) e
     ∙ put-part d f.at f.size v (ap length q ∙ length-digit_bytes f.size s.args.value) ∙ ap (over d f.at) q
 

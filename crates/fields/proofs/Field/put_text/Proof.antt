@@ -10,13 +10,13 @@ use Rattle.fields.proofs.Field.put_text.Tie as tie
 copy-requires : tie.Need-copy-requires
 copy-requires c κs = search rules
 
-same_length : tie.Need-same-length
+same_length : tie.Need-shape_of-part
 same_length c = search rules
 
 returns : tie.Need-returns
 returns c =
-    let a = c.before.before.before.before.before.before.args in
-    c.before.before.copy.ensures ∙ ap (over a.part.now a.self.at) (take-length a.text.now)
+    let a = c.args in
+    c.copy.ensures ∙ ap (over a.part.now a.self.at) (take-length a.text.now)
 
 pub put_text_spec : {M : Type 1} → statement M
 put_text_spec = tie.close (tie.spec copy-requires same_length returns)

@@ -13,9 +13,9 @@ slice-aggregate-same-bytes c = search rules
 same-bytes-requires : tie.Need-same-bytes-requires
 same-bytes-requires c κs = search rules
 
-returns : tie.Need-returns
+returns : tie.Need-returns-then-same_bytes
 unfolding value_of pick
-returns c = simp (sym c.before.same_bytes.ensures ∙ c.if1.true)
+returns c = simp (sym c.same_bytes.ensures ∙ c.if-same_bytes.true)
 
 slice-aggregate-same-bytes-2 : tie.Need-slice-aggregate-same-bytes-2
 slice-aggregate-same-bytes-2 c = search rules
@@ -23,12 +23,12 @@ slice-aggregate-same-bytes-2 c = search rules
 same-bytes-requires-2 : tie.Need-same-bytes-requires-2
 same-bytes-requires-2 c κs = search rules
 
-returns-2 : tie.Need-returns-2
+returns-2 : tie.Need-returns-then-same_bytes-2
 unfolding value_of pick
 returns-2 c =
     simp (
-      sym c.before.before.before.before.same_bytes.ensures ∙ c.before.before.before.if1.false,
-      sym c.before.same-bytes2.ensures ∙ c.if2.true,
+      sym c.same_bytes.ensures ∙ c.if-same_bytes.false,
+      sym c.same_bytes-2.ensures ∙ c.if-same_bytes-2.true,
     )
 
 slice-aggregate-same-bytes-3 : tie.Need-slice-aggregate-same-bytes-3
@@ -37,13 +37,13 @@ slice-aggregate-same-bytes-3 c = search rules
 same-bytes-requires-3 : tie.Need-same-bytes-requires-3
 same-bytes-requires-3 c κs = search rules
 
-returns-3 : tie.Need-returns-3
+returns-3 : tie.Need-returns-then-same_bytes-3
 unfolding value_of pick
 returns-3 c =
     simp (
-      sym c.before.before.before.before.before.before.before.same_bytes.ensures ∙ c.before.before.before.before.before.before.if1.false,
-      sym c.before.before.before.before.same-bytes2.ensures ∙ c.before.before.before.if2.false,
-      sym c.before.same-bytes3.ensures ∙ c.if3.true,
+      sym c.same_bytes.ensures ∙ c.if-same_bytes.false,
+      sym c.same_bytes-2.ensures ∙ c.if-same_bytes-2.false,
+      sym c.same_bytes-3.ensures ∙ c.if-same_bytes-3.true,
     )
 
 slice-aggregate-same-bytes-4 : tie.Need-slice-aggregate-same-bytes-4
@@ -52,24 +52,24 @@ slice-aggregate-same-bytes-4 c = search rules
 same-bytes-requires-4 : tie.Need-same-bytes-requires-4
 same-bytes-requires-4 c κs = search rules
 
-returns-4 : tie.Need-returns-4
+returns-4 : tie.Need-returns-then-same_bytes-4
 unfolding value_of pick
 returns-4 c =
     simp (
-      sym c.before.before.before.before.before.before.before.before.before.before.same_bytes.ensures ∙ c.before.before.before.before.before.before.before.before.before.if1.false,
-      sym c.before.before.before.before.before.before.before.same-bytes2.ensures ∙ c.before.before.before.before.before.before.if2.false,
-      sym c.before.before.before.before.same-bytes3.ensures ∙ c.before.before.before.if3.false,
-      sym c.before.same-bytes4.ensures ∙ c.if4.true,
+      sym c.same_bytes.ensures ∙ c.if-same_bytes.false,
+      sym c.same_bytes-2.ensures ∙ c.if-same_bytes-2.false,
+      sym c.same_bytes-3.ensures ∙ c.if-same_bytes-3.false,
+      sym c.same_bytes-4.ensures ∙ c.if-same_bytes-4.true,
     )
 
-returns-5 : tie.Need-returns-5
+returns-5 : tie.Need-returns
 unfolding value_of pick
 returns-5 c =
     simp (
-      sym c.before.before.before.before.before.before.before.before.before.before.same_bytes.ensures ∙ c.before.before.before.before.before.before.before.before.before.if1.false,
-      sym c.before.before.before.before.before.before.before.same-bytes2.ensures ∙ c.before.before.before.before.before.before.if2.false,
-      sym c.before.before.before.before.same-bytes3.ensures ∙ c.before.before.before.if3.false,
-      sym c.before.same-bytes4.ensures ∙ c.if4.false,
+      sym c.same_bytes.ensures ∙ c.if-same_bytes.false,
+      sym c.same_bytes-2.ensures ∙ c.if-same_bytes-2.false,
+      sym c.same_bytes-3.ensures ∙ c.if-same_bytes-3.false,
+      sym c.same_bytes-4.ensures ∙ c.if-same_bytes-4.false,
     )
 
 pub mode_from_bytes_spec : {M : Type 1} → statement M

@@ -7,23 +7,23 @@ use Rattle.fields.proofs.Values.{named_by}
 use Rattle.fields.proofs.named.mode_is_named.Statement.{statement}
 use Rattle.fields.proofs.named.mode_is_named.Tie as tie
 
-mode-from-bytes-requires : tie.Need-mode-from-bytes-requires
+mode-from-bytes-requires : tie.Need-mode_from_bytes-requires
 mode-from-bytes-requires c κs = search rules
 
-mode-to-bytes-requires : tie.Need-mode-to-bytes-requires
+mode-to-bytes-requires : tie.Need-mode_to_bytes-text-requires
 mode-to-bytes-requires c κs = search rules
 
-slice-aggregate-same-bytes : tie.Need-slice-aggregate-same-bytes
+slice-aggregate-same-bytes : tie.Need-slice_bounds-same_bytes-end
 slice-aggregate-same-bytes c = search rules
 
-same-bytes-requires : tie.Need-same-bytes-requires
+same-bytes-requires : tie.Need-same_bytes-requires
 same-bytes-requires c κs = search rules
 
 returns : tie.Need-returns
 returns c =
-    let text = c.before.before in
-    let xs = text.before.before.before.args.bytes.now in
-    c.same_bytes.ensures ∙ ap (same_bytes xs) (text.mode-to-bytes.ensures ∙ ap imode_text text.before.mode-from-bytes.ensures) ∙ named_by imode_text xs _ _
+    let text = c in
+    let xs = text.args.bytes.now in
+    c.same_bytes.ensures ∙ ap (same_bytes xs) (text.mode_to_bytes-text.ensures ∙ ap imode_text text.mode_from_bytes.ensures) ∙ named_by imode_text xs _ _
 
 pub mode_is_named_spec : {M : Type 1} → statement M
 mode_is_named_spec =

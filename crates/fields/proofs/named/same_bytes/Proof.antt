@@ -11,55 +11,55 @@ use Rattle.fields.proofs.Values.{same_length, same_stop, same-go}
 use Rattle.fields.proofs.named.same_bytes.Statement.{statement}
 use Rattle.fields.proofs.named.same_bytes.Tie as tie
 
-abbrev invariant-loop : tie.invariant-loop
+abbrev invariant-loop : tie.invariant-loop-j
 invariant-loop a b j₀ j-end j =
     (j ≤ length a) × (j-end ≡ length a) × (length a ≡ length b) × (same_bytes (drop j a) (drop j b) ≡ same_bytes a b)
 
-abbrev decreases-loop : tie.decreases-loop
+abbrev decreases-loop : tie.decreases-loop-j
 decreases-loop a b j₀ j-end j = length a - j
 
-returns : tie.Need-returns invariant-loop decreases-loop
-returns c = sym (same_length c.before.args.a.now c.before.args.b.now c.if1.true)
+returns : tie.Need-returns-then-a-b invariant-loop decreases-loop
+returns c = sym (same_length c.args.a.now c.args.b.now c.if-a-b.true)
 
-loop-holds : tie.Need-loop-init invariant-loop decreases-loop
-loop-holds c = (omega arith, refl, c.if1.false, refl)
+loop-holds : tie.Need-loop-j-init invariant-loop decreases-loop
+loop-holds c = (omega arith, refl, c.if-a-b.false, refl)
 
-shared-slice-read-if2 : tie.Need-shared-slice-read-if2 invariant-loop decreases-loop
+shared-slice-read-if2 : tie.Need-bounds-a-j invariant-loop decreases-loop
 shared-slice-read-if2 c = omega arith
 
-shared-slice-read-if2-2 : tie.Need-shared-slice-read-if2-2 invariant-loop decreases-loop
+shared-slice-read-if2-2 : tie.Need-bounds-b-j invariant-loop decreases-loop
 shared-slice-read-if2-2 c = omega arith
 
-returns-2 : tie.Need-returns-2 invariant-loop decreases-loop
+returns-2 : tie.Need-returns-then-a-j invariant-loop decreases-loop
 returns-2 c =
-    let l = c.before.before.before.before in
-    let xs : List ℕ = l.before.before.args.a.now in
-    let ys : List ℕ = l.before.before.args.b.now in
-    sym (sym l.loop.invariant.3 ∙ same_stop xs ys l.loop.j (omega arith) (omega (arith, l.loop.invariant.2)) c.if2.true)
+    let l = c in
+    let xs : List ℕ = l.args.a.now in
+    let ys : List ℕ = l.args.b.now in
+    sym (sym l.loop-j.invariant.3 ∙ same_stop xs ys l.loop-j.j (omega arith) (omega (arith, l.loop-j.invariant.2)) c.if-a-j.true)
 
-add-j : tie.Need-overflow-add-j invariant-loop decreases-loop
+add-j : tie.Need-overflow_step-j invariant-loop decreases-loop
 add-j c = omega arith
 
-loop-less : tie.Need-loop-smaller invariant-loop decreases-loop
+loop-less : tie.Need-loop-j-smaller invariant-loop decreases-loop
 loop-less c = omega arith
 
-loop-again : tie.Need-loop-preserved invariant-loop decreases-loop
+loop-again : tie.Need-loop-j-preserved invariant-loop decreases-loop
 loop-again c =
-    let l = c.before.before.before.before in
-    let xs : List ℕ = l.before.before.args.a.now in
-    let ys : List ℕ = l.before.before.args.b.now in
-    let go = same-go xs ys l.loop.j (omega arith) (omega (arith, l.loop.invariant.2)) c.if2.false in
-    (omega arith, refl, l.loop.invariant.2, go ∙ l.loop.invariant.3)
+    let l = c in
+    let xs : List ℕ = l.args.a.now in
+    let ys : List ℕ = l.args.b.now in
+    let go = same-go xs ys l.loop-j.j (omega arith) (omega (arith, l.loop-j.invariant.2)) c.if-a-j.false in
+    (omega arith, refl, l.loop-j.invariant.2, go ∙ l.loop-j.invariant.3)
 
-returns-3 : tie.Need-returns-3 invariant-loop decreases-loop
+returns-3 : tie.Need-returns invariant-loop decreases-loop
 unfolding same_bytes
 returns-3 c =
-    let l = c.before in
-    let xs : List ℕ = l.before.before.args.a.now in
-    let ys : List ℕ = l.before.before.args.b.now in
-    let e : l.loop.j ≡ length xs = omega arith in
-    let f : l.loop.j ≡ length ys = omega (arith, l.loop.invariant.2) in
-    sym (sym l.loop.invariant.3 ∙ ap₂ same_bytes (ap (λ (n : ℕ). drop n xs) e ∙ drop-length xs) (ap (λ (n : ℕ). drop n ys) f ∙ drop-length ys))
+    let l = c in
+    let xs : List ℕ = l.args.a.now in
+    let ys : List ℕ = l.args.b.now in
+    let e : l.loop-j.j ≡ length xs = omega arith in
+    let f : l.loop-j.j ≡ length ys = omega (arith, l.loop-j.invariant.2) in
+    sym (sym l.loop-j.invariant.3 ∙ ap₂ same_bytes (ap (λ (n : ℕ). drop n xs) e ∙ drop-length xs) (ap (λ (n : ℕ). drop n ys) f ∙ drop-length ys))
 
 pub same_bytes_spec : {M : Type 1} → statement M
 same_bytes_spec =

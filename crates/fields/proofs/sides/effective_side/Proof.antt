@@ -6,17 +6,17 @@ use Rattle.fields.specs.Sides.{effective}
 use Rattle.fields.proofs.sides.effective_side.Statement.{statement}
 use Rattle.fields.proofs.sides.effective_side.Tie as tie
 
-returns : tie.Need-returns
+returns : tie.Need-returns-then-size-ne0
 unfolding effective pick every
-returns c = simp (ne_eqb _ _ c.if1.true)
+returns c = simp (ne_eqb _ _ c.if-size-ne0.true)
 
-returns-2 : tie.Need-returns-2
+returns-2 : tie.Need-returns-then-blocks-ne1
 unfolding effective pick every
-returns-2 c = simp (eq-eqb _ _ c.before.if1.false, ne_eqb _ _ c.if2.true)
+returns-2 c = simp (eq-eqb _ _ c.if-size-ne0.false, ne_eqb _ _ c.if-blocks-ne1.true)
 
-returns-3 : tie.Need-returns-3
+returns-3 : tie.Need-returns
 unfolding effective pick every
-returns-3 c = simp (eq-eqb _ _ c.before.if1.false, eq-eqb _ _ c.if2.false)
+returns-3 c = simp (eq-eqb _ _ c.if-size-ne0.false, eq-eqb _ _ c.if-blocks-ne1.false)
 
 pub effective_side_spec : {M : Type 1} → statement M
 effective_side_spec = tie.close (tie.spec returns returns-2 returns-3)

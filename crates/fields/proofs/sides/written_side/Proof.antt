@@ -7,13 +7,13 @@ use Rattle.fields.specs.Sides.{written_side}
 use Rattle.fields.proofs.sides.written_side.Statement.{statement}
 use Rattle.fields.proofs.sides.written_side.Tie as tie
 
-returns : tie.Need-returns
+returns : tie.Need-returns-then-size-gt-MAX_BLOCK_SIDE
 unfolding written_side
-returns c = sym (pick_no _ _ (lt-leb _ _ c.if1.true))
+returns c = sym (pick_no _ _ (lt-leb _ _ c.if-size-gt-MAX_BLOCK_SIDE.true))
 
-returns-2 : tie.Need-returns-2
+returns-2 : tie.Need-returns
 unfolding written_side
-returns-2 c = sym (pick_yes _ _ (le-leb _ _ c.if1.false))
+returns-2 c = sym (pick_yes _ _ (le-leb _ _ c.if-size-gt-MAX_BLOCK_SIDE.false))
 
 pub written_side_spec : {M : Type 1} → statement M
 written_side_spec = tie.close (tie.spec returns returns-2)

@@ -20,25 +20,25 @@ wide x n h l = sym (lt-ltb x (2 ^ (8 * n)) (lt_of_lt_of_le h (pow_mono {i = 32} 
 short : (n : ℕ) → n < 4 → 1 * 2 ^ (8 * n) % 2 ^ 64 ≡ 2 ^ (8 * n)
 short n h = shl_exact {a = 1} 1 (8 * n) 64 (omega arith) (omega arith) ∙ omega arith
 
-code-bytes-requires : tie.Need-code-bytes-requires
+code-bytes-requires : tie.Need-code_bytes-bytes-requires
 code-bytes-requires c κs = search rules
 
-returns : tie.Need-returns
+returns : tie.Need-returns-then-bytes-ge4
 returns c =
-    let bytes = c.before.code-bytes.ensures in
-    wide c.before.before.args.self.pad_pixel_code _ (omega arith) (rw bytes at c.if1.true)
+    let bytes = c.code_bytes-bytes.ensures in
+    wide c.args.self.pad_pixel_code _ (omega arith) (rw bytes at c.if-bytes-ge4.true)
 
-cast-result : tie.Need-overflow-cast-result
+cast-result : tie.Need-overflow_cast-result
 cast-result c = search rules
 
-mul-result : tie.Need-overflow-mul-result
+mul-result : tie.Need-overflow_mul-result
 mul-result c = search rules
 
-shl-result : tie.Need-overflow-shl-result
+shl-result : tie.Need-overflow_shl-result
 shl-result c = search rules
 
-returns-2 : tie.Need-returns-2
-returns-2 c = rw (short _ c.before.if1.false, c.before.before.code-bytes.ensures)
+returns-2 : tie.Need-returns
+returns-2 c = rw (short _ c.if-bytes-ge4.false, c.code_bytes-bytes.ensures)
 
 pub code_fits_spec : {M : Type 1} → statement M
 code_fits_spec =

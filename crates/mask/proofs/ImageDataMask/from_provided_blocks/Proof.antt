@@ -12,42 +12,42 @@ use Rattle.mask.proofs.ImageDataMask.from_provided_blocks.Statement.{statement}
 use Rattle.mask.proofs.ImageDataMask.from_provided_blocks.Tie as tie
 
 -- the call is accepted, and what that tells
-zero : (c : tie.Else1)
-    → let a = c.before.before.before.before.args in
+zero : (c : tie.Else-number-ne0)
+    → let a = c.args in
     from_marks_number a.grid (length a.marks.now) (length a.out.now) ≡ 0
-zero c = sym c.before.marks-number.ensures ∙ c.if1.false
+zero c = sym c.marks_number-number.ensures ∙ c.if-number-ne0.false
 
-facts : (c : tie.Else1)
-    → let a = c.before.before.before.before.args in
+facts : (c : tie.Else-number-ne0)
+    → let a = c.args in
     FromMarks a.grid (length a.marks.now) (length a.out.now)
 facts c = from-marks-facts _ _ _ (zero c)
 
-marks-number-requires : tie.Need-marks-number-requires
+marks-number-requires : tie.Need-marks_number-number-requires
 marks-number-requires c κs = search rules
 
 none-requires : tie.Need-none-requires
 none-requires c κs = search rules
 
-returns : tie.Need-returns
+returns : tie.Need-returns-then-number-ne0
 unfolding from_provided_blocks
 returns c =
     rw c.none.ensures
-    (refused-by _ (λ n. marks_with (no_parse n) _) c.before.before.marks-number.ensures c.before.if1.true)
+    (refused-by _ (λ n. marks_with (no_parse n) _) c.marks_number-number.ensures c.if-number-ne0.true)
 
-fill-records-requires : tie.Need-fill-records-requires
+fill-records-requires : tie.Need-fill_records-requires
 fill-records-requires c κs = let a = facts c.before in (a.accepted, (omega (arith, a.words), a.room))
 
-record-count-requires : tie.Need-record-count-requires
+record-count-requires : tie.Need-record_count-requires
 record-count-requires c κs = (facts c.before.before.before.before).accepted
 
-same_length : tie.Need-same-length
+same_length : tie.Need-shape_of-out
 same_length c = search rules
 
-returns-2 : tie.Need-returns-2
+returns-2 : tie.Need-returns
 unfolding from_provided_blocks outcome
 returns-2 c =
     let f = c.before.before.before in
-    rw (f.fill-records.ensures, c.record-count.ensures, zero f.before.before)
+    rw (f.fill_records.ensures, c.record_count.ensures, zero f.before.before)
 
 pub from_provided_blocks_spec : {M : Type 1} → statement M
 from_provided_blocks_spec =

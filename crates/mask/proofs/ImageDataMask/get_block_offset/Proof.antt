@@ -13,43 +13,43 @@ use Rattle.mask.proofs.ImageDataMask.get_block_offset.Statement.{statement}
 use Rattle.mask.proofs.ImageDataMask.get_block_offset.Tie as tie
 
 -- the call is accepted
-zero : (c : tie.Else1)
-    → let a = c.before.before.before.args in
+zero : (c : tie.Else-number-ne0)
+    → let a = c.args in
     lookup_number a.grid a.table.now a.block_row a.block-col a.band ≡ 0
-zero c = sym c.before.lookup-number.ensures ∙ c.if1.false
+zero c = sym c.lookup_number-number.ensures ∙ c.if-number-ne0.false
 
-lookup-number-requires : tie.Need-lookup-number-requires
+lookup-number-requires : tie.Need-lookup_number-number-requires
 lookup-number-requires c κs = search rules
 
-returns : tie.Need-returns
+returns : tie.Need-returns-then-number-ne0
 unfolding get_block_offset
-returns c = refused-by _ no_offset c.before.lookup-number.ensures c.if1.true
+returns c = refused-by _ no_offset c.lookup_number-number.ensures c.if-number-ne0.true
 
-read-two-requires : tie.Need-read-two-requires
+read-two-requires : tie.Need-read_two-requires
 read-two-requires c κs = omega (arith, (lookup-facts _ _ _ _ _ (zero c)).parsed.ten)
 
-returns-2 : tie.Need-returns-2
+returns-2 : tie.Need-returns-then-read_two-eq0
 unfolding get_block_offset outcome is_given pick
-returns-2 c = rw (zero c.before.before, eq-eqb _ 0 (sym c.before.read-two.ensures ∙ c.if2.true))
+returns-2 c = rw (zero c.before.before, eq-eqb _ 0 (sym c.read_two.ensures ∙ c.if-read_two-eq0.true))
 
-record-of-requires : tie.Need-record-of-requires
+record-of-requires : tie.Need-record_of-offset-requires
 record-of-requires c κs = search rules
 
-returns-3 : tie.Need-returns-3
+returns-3 : tie.Need-returns-then-offset
 unfolding get_block_offset outcome is_given pick
 returns-3 c =
     let r = c.before in
     let l = r.before in
-    let has-records = ne_eqb _ 0 (rw l.before.read-two.ensures at l.if2.false) in
-    rw (zero l.before.before, has-records, ← r.record_of.ensures, eq-eqb _ _ c.if3.true)
+    let has-records = ne_eqb _ 0 (rw l.read_two.ensures at l.if-read_two-eq0.false) in
+    rw (zero l.before.before, has-records, ← r.record_of-offset.ensures, eq-eqb _ _ c.if-offset.true)
 
-returns-4 : tie.Need-returns-4
+returns-4 : tie.Need-returns
 unfolding get_block_offset outcome is_given pick
 returns-4 c =
     let r = c.before in
     let l = r.before in
-    let has-records = ne_eqb _ 0 (rw l.before.read-two.ensures at l.if2.false) in
-    rw (zero l.before.before, has-records, ← r.record_of.ensures, ne_eqb _ _ c.if3.false)
+    let has-records = ne_eqb _ 0 (rw l.read_two.ensures at l.if-read_two-eq0.false) in
+    rw (zero l.before.before, has-records, ← r.record_of-offset.ensures, ne_eqb _ _ c.if-offset.false)
 
 pub get_block_offset_spec : {M : Type 1} → statement M
 get_block_offset_spec =

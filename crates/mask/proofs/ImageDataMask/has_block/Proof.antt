@@ -13,34 +13,34 @@ use Rattle.mask.proofs.ImageDataMask.has_block.Statement.{statement}
 use Rattle.mask.proofs.ImageDataMask.has_block.Tie as tie
 
 -- the call is accepted
-zero : (c : tie.Else1)
-    → let a = c.before.before.before.args in
+zero : (c : tie.Else-number-ne0)
+    → let a = c.args in
     lookup_number a.grid a.table.now a.block_row a.block-col a.band ≡ 0
-zero c = sym c.before.lookup-number.ensures ∙ c.if1.false
+zero c = sym c.lookup_number-number.ensures ∙ c.if-number-ne0.false
 
-lookup-number-requires : tie.Need-lookup-number-requires
+lookup-number-requires : tie.Need-lookup_number-number-requires
 lookup-number-requires c κs = search rules
 
-returns : tie.Need-returns
+returns : tie.Need-returns-then-number-ne0
 unfolding has_block
-returns c = refused-by _ not_present c.before.lookup-number.ensures c.if1.true
+returns c = refused-by _ not_present c.lookup_number-number.ensures c.if-number-ne0.true
 
-read-two-requires : tie.Need-read-two-requires
+read-two-requires : tie.Need-read_two-requires
 read-two-requires c κs = omega (arith, (lookup-facts _ _ _ _ _ (zero c)).parsed.ten)
 
-returns-2 : tie.Need-returns-2
+returns-2 : tie.Need-returns-then-read_two-eq0
 unfolding has_block outcome is_present pick
-returns-2 c = rw (zero c.before.before, eq-eqb _ 0 (sym c.before.read-two.ensures ∙ c.if2.true))
+returns-2 c = rw (zero c.before.before, eq-eqb _ 0 (sym c.read_two.ensures ∙ c.if-read_two-eq0.true))
 
-record-of-requires : tie.Need-record-of-requires
+record-of-requires : tie.Need-record_of-record-requires
 record-of-requires c κs = search rules
 
-returns-3 : tie.Need-returns-3
+returns-3 : tie.Need-returns
 unfolding has_block outcome is_present pick
 returns-3 c =
     let l = c.before in
-    let has-records = ne_eqb _ 0 (rw l.before.read-two.ensures at l.if2.false) in
-    rw (zero l.before.before, has-records, c.record_of.ensures)
+    let has-records = ne_eqb _ 0 (rw l.read_two.ensures at l.if-read_two-eq0.false) in
+    rw (zero l.before.before, has-records, c.record_of-record.ensures)
 
 pub has_block_spec : {M : Type 1} → statement M
 has_block_spec =

@@ -7,21 +7,21 @@ use Rattle.common.proofs.Tests.{every-last}
 use Rattle.mask.proofs.ImageDataMask.has_record_lengths.Statement.{statement}
 use Rattle.mask.proofs.ImageDataMask.has_record_lengths.Tie as tie
 
-is-record-length-requires : tie.Need-is-record-length-requires
+is-record-length-requires : tie.Need-is_record_length-requires
 is-record-length-requires c κs = search rules
 
-returns : tie.Need-returns
+returns : tie.Need-returns-then-not-is_record_length
 unfolding every
-returns c = rw (no c.before.is-record-length.ensures c.if1.true)
+returns c = rw (no c.is_record_length.ensures c.if-not-is_record_length.true)
 
-is-record-length-requires-2 : tie.Need-is-record-length-requires-2
+is-record-length-requires-2 : tie.Need-is_record_length-requires-2
 is-record-length-requires-2 c κs = search rules
 
-returns-2 : tie.Need-returns-2
+returns-2 : tie.Need-returns
 unfolding every
 returns-2 c =
-    let block = c.before in
-    rw (yes block.before.is-record-length.ensures block.if1.false, c.is-record-length2.ensures) (every-last _)
+    let block = c in
+    rw (yes block.is_record_length.ensures block.if-not-is_record_length.false, c.is_record_length-2.ensures) (every-last _)
 
 pub has_record_lengths_spec : {M : Type 1} → statement M
 has_record_lengths_spec =

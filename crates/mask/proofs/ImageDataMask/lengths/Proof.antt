@@ -4,23 +4,23 @@ use borrow.Author.Rules.{rules}
 use Rattle.mask.proofs.ImageDataMask.lengths.Statement.{statement}
 use Rattle.mask.proofs.ImageDataMask.lengths.Tie as tie
 
-read-four-requires : tie.Need-read-four-requires
+read-four-requires : tie.Need-read_four-requires
 read-four-requires c κs = search rules
 
-read-two-requires : tie.Need-read-two-requires
+read-two-requires : tie.Need-read_two-requires
 read-two-requires c κs = search rules
 
-read-two-requires-2 : tie.Need-read-two-requires-2
+read-two-requires-2 : tie.Need-read_two-requires-2
 read-two-requires-2 c κs = search rules
 
-read-two-requires-3 : tie.Need-read-two-requires-3
+read-two-requires-3 : tie.Need-read_two-requires-3
 read-two-requires-3 c κs = search rules
 
 returns : tie.Need-returns
 returns c =
     let pad = c.before in
-    let block = pad.before in
-    rw (block.before.read-four.ensures, block.read-two.ensures, pad.read-two2.ensures, c.read-two3.ensures)
+    let block = pad in
+    rw (block.read_four.ensures, block.read_two.ensures, pad.read_two-2.ensures, c.read_two-3.ensures)
 
 pub lengths_spec : {M : Type 1} → statement M
 lengths_spec =

@@ -7,31 +7,31 @@ use Rattle.common.proofs.Tests.{every-last}
 use Rattle.mask.proofs.ImageDataMask.lists_fit.Statement.{statement}
 use Rattle.mask.proofs.ImageDataMask.lists_fit.Tie as tie
 
-record-count-requires : tie.Need-record-count-requires
+record-count-requires : tie.Need-record_count-records-requires
 record-count-requires c κs = search rules
 
 pick-requires : tie.Need-pick-requires
 pick-requires c κs = search rules
 
-returns : tie.Need-returns
+returns : tie.Need-returns-then-blocks-pick
 unfolding every
 returns c =
-    let wanted = c.before in
-    rw (← wanted.before.before.record-count.ensures, ← wanted.pick.ensures, ne_eqb _ _ c.if1.true)
+    let wanted = c in
+    rw (← wanted.record_count-records.ensures, ← wanted.pick.ensures, ne_eqb _ _ c.if-blocks-pick.true)
 
 pick-requires-2 : tie.Need-pick-requires-2
 pick-requires-2 c κs = search rules
 
-returns-2 : tie.Need-returns-2
+returns-2 : tie.Need-returns
 unfolding every
 returns-2 c =
     let blocks = c.before.before in
-    let wanted = blocks.before in
+    let wanted = blocks in
     rw (
-      ← wanted.before.before.record-count.ensures,
+      ← wanted.record_count-records.ensures,
       ← wanted.pick.ensures,
-      eq-eqb _ _ blocks.if1.false,
-      ← c.pick2.ensures,
+      eq-eqb _ _ blocks.if-blocks-pick.false,
+      ← c.pick-2.ensures,
     )
     (every-last _)
 

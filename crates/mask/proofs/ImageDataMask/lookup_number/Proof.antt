@@ -12,39 +12,39 @@ use Rattle.mask.proofs.ImageDataMask.lookup_number.Statement.{statement}
 use Rattle.mask.proofs.ImageDataMask.lookup_number.Tie as tie
 
 -- the number past the questions of the table
-rest : (c : tie.Else1)
-    → let a = c.before.before.before.args in
+rest : (c : tie.Else-number-ne0)
+    → let a = c.args in
     lookup_number a.grid a.table.now a.block_row a.block-col a.band
     ≡ ask 6 (q6 a.grid a.block_row a.block-col) (ask 8 (q8_lookup a.grid a.band) 0)
 unfolding parse_number lookup_number
 rest c =
-    let a = c.before.before.before.args in
-    (table_before a.grid a.table.now).accepts c.before.parse-number.ensures c.if1.false _
+    let a = c.args in
+    (table_before a.grid a.table.now).accepts c.parse_number-number.ensures c.if-number-ne0.false _
 
-parse-number-requires : tie.Need-parse-number-requires
+parse-number-requires : tie.Need-parse_number-number-requires
 parse-number-requires c κs = search rules
 
-returns : tie.Need-returns
+returns : tie.Need-returns-then-number-ne0
 unfolding parse_number lookup_number
 returns c =
-    let a = c.before.before.before.args in
-    (table_before a.grid a.table.now).refuses c.before.parse-number.ensures c.if1.true _
+    let a = c.args in
+    (table_before a.grid a.table.now).refuses c.parse_number-number.ensures c.if-number-ne0.true _
 
-has-block-requires : tie.Need-has-block-requires
+has-block-requires : tie.Need-has_block-requires
 has-block-requires c κs = search rules
 
-returns-2 : tie.Need-returns-2
-returns-2 c = rw (rest c.before.before, no c.before.has_block.ensures c.if2.true)
+returns-2 : tie.Need-returns-then-not-has_block
+returns-2 c = rw (rest c.before.before, no c.has_block.ensures c.if-not-has_block.true)
 
-returns-3 : tie.Need-returns-3
+returns-3 : tie.Need-returns-then-band-grid
 returns-3 c =
     let b = c.before.before in
-    rw (rest b.before.before, yes b.before.has_block.ensures b.if2.false, le-ltb _ _ c.if3.true)
+    rw (rest b.before.before, yes b.has_block.ensures b.if-not-has_block.false, le-ltb _ _ c.if-band-grid.true)
 
-returns-4 : tie.Need-returns-4
+returns-4 : tie.Need-returns
 returns-4 c =
     let b = c.before.before in
-    rw (rest b.before.before, yes b.before.has_block.ensures b.if2.false, lt-ltb _ _ c.if3.false)
+    rw (rest b.before.before, yes b.has_block.ensures b.if-not-has_block.false, lt-ltb _ _ c.if-band-grid.false)
 
 pub lookup_number_spec : {M : Type 1} → statement M
 lookup_number_spec =

@@ -19,10 +19,10 @@ use Rattle.mask.proofs.ImageDataMask.parse.Statement.{statement}
 use Rattle.mask.proofs.ImageDataMask.parse.Tie as tie
 
 -- the call is accepted, and what that tells
-zero : (c : tie.Else1) → let a = c.before.before.before.args in parse_number a.grid a.table.now ≡ 0
-zero c = sym c.before.parse-number.ensures ∙ c.if1.false
+zero : (c : tie.Else-number-ne0) → let a = c.args in parse_number a.grid a.table.now ≡ 0
+zero c = sym c.parse_number-number.ensures ∙ c.if-number-ne0.false
 
-facts : (c : tie.Else1) → let a = c.before.before.before.args in Parse a.grid a.table.now
+facts : (c : tie.Else-number-ne0) → let a = c.args in Parse a.grid a.table.now
 facts c = parse-facts _ _ (zero c)
 
 -- what was read is the answer
@@ -32,52 +32,52 @@ unfolding parse outcome
 done g table z m u = rw (z, m, u)
 
 -- the code's bytes
-code_in : (c : tie.After-code-bytes)
-    → let h = c.before.before.before in
-    let n = c.code-bytes.result in
-    (n ≤ 4) × (10 + n ≤ length h.before.before.before.args.table.now)
+code_in : (c : tie.After-code_bytes-size)
+    → let h = c in
+    let n = c.code_bytes-size.result in
+    (n ≤ 4) × (10 + n ≤ length h.args.table.now)
 code_in c =
     let l = c.before.before in
-    rw (c.code-bytes.ensures, l.lengths.ensures) (code_inside _ _ (facts l.before))
+    rw (c.code_bytes-size.ensures, l.lengths-mask.ensures) (code_inside _ _ (facts l.before))
 
-parse-number-requires : tie.Need-parse-number-requires
+parse-number-requires : tie.Need-parse_number-number-requires
 parse-number-requires c κs = search rules
 
 none-requires : tie.Need-none-requires
 none-requires c κs = search rules
 
-returns : tie.Need-returns
+returns : tie.Need-returns-then-number-ne0
 unfolding parse
 returns c =
     rw c.none.ensures
-    (refused-by _ no_parse c.before.before.parse-number.ensures c.before.if1.true)
+    (refused-by _ no_parse c.parse_number-number.ensures c.if-number-ne0.true)
 
-lengths-requires : tie.Need-lengths-requires
+lengths-requires : tie.Need-lengths-mask-requires
 lengths-requires c κs = (facts c).ten
 
-table-bytes-requires : tie.Need-table-bytes-requires
+table-bytes-requires : tie.Need-table_bytes-used-requires
 table-bytes-requires c κs = (facts c.before).accepted
 
-code-bytes-requires : tie.Need-code-bytes-requires
+code-bytes-requires : tie.Need-code_bytes-size-requires
 code-bytes-requires c κs = search rules
 
-get-be-requires : tie.Need-get-be-requires
+get-be-requires : tie.Need-get_be-requires
 get-be-requires c κs = omega (arith, code_in c)
 
-cast-mask : tie.Need-overflow-cast-mask
+cast-mask : tie.Need-overflow_cast-mask
 cast-mask c =
     let h = c.before.before.before.before in
-    let known = h.before.before in
-    let table = known.before.args.table.now in
-    let bytes : Bytes table = λ i. (known.shared-slice-known.given i).fits in
-    record { fits = code_lt table _ bytes (code_in c.before).0 c.get-be.ensures }
+    let known = h in
+    let table = known.args.table.now in
+    let bytes : Bytes table = λ i. (known.shared_slice_known-1.given i).fits in
+    record { fits = code_lt table _ bytes (code_in c.before).0 c.get_be.ensures }
 
-returns-2 : tie.Need-returns-2
+returns-2 : tie.Need-returns
 returns-2 c =
     let size = c.before.before in
     let l = size.before in
-    done _ _ (zero l.before) (rw (c.get-be.ensures, c.before.code-bytes.ensures, l.lengths.ensures))
-    (rw l.lengths.ensures at size.table-bytes.ensures)
+    done _ _ (zero l.before) (rw (c.get_be.ensures, c.code_bytes-size.ensures, l.lengths-mask.ensures))
+    (rw l.lengths-mask.ensures at size.table_bytes-used.ensures)
 
 pub parse_spec : {M : Type 1} → statement M
 parse_spec =

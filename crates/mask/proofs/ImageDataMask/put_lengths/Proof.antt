@@ -5,28 +5,28 @@ use Rattle.mask.proofs.TableWrites.{lengths-put}
 use Rattle.mask.proofs.ImageDataMask.put_lengths.Statement.{statement}
 use Rattle.mask.proofs.ImageDataMask.put_lengths.Tie as tie
 
-put-be-requires : tie.Need-put-be-requires
+put-be-requires : tie.Need-put_be-requires
 put-be-requires c κs = search rules
 
-cast-put-be : tie.Need-overflow-cast-put-be
+cast-put-be : tie.Need-overflow_cast-self
 cast-put-be c = search rules
 
-put-be-requires-2 : tie.Need-put-be-requires-2
+put-be-requires-2 : tie.Need-put_be-requires-2
 put-be-requires-2 c κs = search rules
 
-cast-put-be-2 : tie.Need-overflow-cast-put-be-2
+cast-put-be-2 : tie.Need-overflow_cast-self-2
 cast-put-be-2 c = search rules
 
-put-be-requires-3 : tie.Need-put-be-requires-3
+put-be-requires-3 : tie.Need-put_be-requires-3
 put-be-requires-3 c κs = search rules
 
-cast-put-be-3 : tie.Need-overflow-cast-put-be-3
+cast-put-be-3 : tie.Need-overflow_cast-self-3
 cast-put-be-3 c = search rules
 
-put-be-requires-4 : tie.Need-put-be-requires-4
+put-be-requires-4 : tie.Need-put_be-requires-4
 put-be-requires-4 c κs = search rules
 
-same_length : tie.Need-same-length
+same_length : tie.Need-shape_of-out
 same_length c = search rules
 
 returns : tie.Need-returns
@@ -34,9 +34,9 @@ returns c =
     let codes = c.before.before in
     let pads = codes.before.before.before.before.before in
     let blocks = pads.before.before.before.before.before in
-    let offset = blocks.before.before.before.before.before in
-    lengths-put _ offset.before.before.before.args.self _ offset.before.before.before.requires
-    offset.put-be.ensures blocks.put-be2.ensures pads.put-be3.ensures codes.put-be4.ensures
+    let offset = blocks in
+    lengths-put _ offset.args.self _ offset.requires
+    offset.put_be.ensures blocks.put_be-2.ensures pads.put_be-3.ensures codes.put_be-4.ensures
 
 pub put_lengths_spec : {M : Type 1} → statement M
 put_lengths_spec =

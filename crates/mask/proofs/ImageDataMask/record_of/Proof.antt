@@ -33,45 +33,45 @@ record_inside g table row column band l ne =
     omega arith
 
 -- the place read, and that it lies inside
-place_is : (c : tie.After-code-bytes)
-    → let a = c.before.before.before.before.args in
-    10 + c.code-bytes.result + c.before.before.lookup-record.result * 4
+place_is : (c : tie.After-code_bytes-code)
+    → let a = c.args in
+    10 + c.code_bytes-code.result + c.lookup_record-record.result * 4
     ≡ 10 + code_bytes (be_at a.table.now 8 2) + lookup_record a.grid a.block_row a.block-col a.band * 4
-place_is c = rw (c.code-bytes.ensures, c.before.read-two.ensures, c.before.before.lookup-record.ensures)
+place_is c = rw (c.code_bytes-code.ensures, c.read_two.ensures, c.lookup_record-record.ensures)
 
-inside : (c : tie.After-code-bytes)
-    → let a = c.before.before.before.before.args in
-    10 + c.code-bytes.result + c.before.before.lookup-record.result * 4 + 4 ≤ length a.table.now
+inside : (c : tie.After-code_bytes-code)
+    → let a = c.args in
+    10 + c.code_bytes-code.result + c.lookup_record-record.result * 4 + 4 ≤ length a.table.now
 inside c =
     let s = c.before.before.before.before in
     rw (place_is c) (record_inside _ _ _ _ _ (facts s) s.requires.1)
 
-lookup-record-requires : tie.Need-lookup-record-requires
+lookup-record-requires : tie.Need-lookup_record-record-requires
 lookup-record-requires c κs = let l = facts c.before in (l.parsed.accepted, l.block)
 
-read-two-requires : tie.Need-read-two-requires
+read-two-requires : tie.Need-read_two-requires
 read-two-requires c κs = omega (arith, (facts c.before.before).parsed.ten)
 
-code-bytes-requires : tie.Need-code-bytes-requires
+code-bytes-requires : tie.Need-code_bytes-code-requires
 code-bytes-requires c κs = search rules
 
-add-read-four : tie.Need-overflow-add-read-four
+add-read-four : tie.Need-overflow_add-code
 add-read-four c = search rules
 
-mul-read-four : tie.Need-overflow-mul-read-four
+mul-read-four : tie.Need-overflow_mul-record
 mul-read-four c = omega (arith, inside c)
 
-add-read-four-2 : tie.Need-overflow-add-read-four-2
+add-read-four-2 : tie.Need-overflow_add-code-2
 add-read-four-2 c = omega (arith, inside c)
 
-read-four-requires : tie.Need-read-four-requires
+read-four-requires : tie.Need-read_four-requires
 read-four-requires c κs = omega (arith, inside c)
 
 returns : tie.Need-returns
 unfolding block_record
 returns c =
-    let table = c.before.before.before.before.before.args.table.now in
-    c.read-four.ensures ∙ ap (λ (i : ℕ). be_at table i 4) (place_is c.before)
+    let table = c.args.table.now in
+    c.read_four.ensures ∙ ap (λ (i : ℕ). be_at table i 4) (place_is c.before)
 
 pub record_of_spec : {M : Type 1} → statement M
 record_of_spec =

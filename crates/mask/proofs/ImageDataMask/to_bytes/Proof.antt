@@ -12,88 +12,88 @@ use Rattle.mask.proofs.ImageDataMask.to_bytes.Statement.{statement}
 use Rattle.mask.proofs.ImageDataMask.to_bytes.Tie as tie
 
 -- the call is accepted, and what that tells
-zero : (c : tie.Else1)
-    → let a = c.before.before.before.before.before.args in
+zero : (c : tie.Else-number-ne0)
+    → let a = c.args in
     let n = length a.block-offsets.now in
     let m = length a.pad-pixel-offsets.now in
     mask_write_number a.grid a.self n m (length a.out.now) ≡ 0
-zero c = sym c.before.write-number.ensures ∙ c.if1.false
+zero c = sym c.write_number-number.ensures ∙ c.if-number-ne0.false
 
-facts : (c : tie.Else1)
-    → let a = c.before.before.before.before.before.args in
+facts : (c : tie.Else-number-ne0)
+    → let a = c.args in
     let n = length a.block-offsets.now in
     let m = length a.pad-pixel-offsets.now in
     MaskWrite a.grid a.self n m (length a.out.now)
 facts c = mask_write-facts _ _ _ _ _ (zero c)
 
 -- from each call that puts to what was before it
-abbrev accepted-before : tie.After-code-bytes → tie.Else1
+abbrev accepted-before : tie.After-code_bytes-code → tie.Else-number-ne0
 accepted-before c = c.before.before.before.before.before.before
 
-abbrev code-before : tie.After-put-be → tie.After-code-bytes
+abbrev code-before : tie.After-put_be → tie.After-code_bytes-code
 code-before c = c.before.before.before
 
-abbrev blocks-before : tie.After-put-offsets-arg2 → tie.After-put-be
+abbrev blocks-before : tie.After-put_offsets-arg-2-1 → tie.After-put_be
 blocks-before c = c.before.before.before.before.before.before.before
 
-write-number-requires : tie.Need-write-number-requires
+write-number-requires : tie.Need-write_number-number-requires
 write-number-requires c κs = search rules
 
-returns : tie.Need-returns
+returns : tie.Need-returns-then-number-ne0
 unfolding to_bytes
-returns c = refused-by _ (λ n. written_with (not_written n) _) c.before.write-number.ensures c.if1.true
+returns c = refused-by _ (λ n. written_with (not_written n) _) c.write_number-number.ensures c.if-number-ne0.true
 
-table-bytes-requires : tie.Need-table-bytes-requires
+table-bytes-requires : tie.Need-table_bytes-size-requires
 table-bytes-requires c κs = (facts c).accepted
 
-put-lengths-requires : tie.Need-put-lengths-requires
+put-lengths-requires : tie.Need-put_lengths-requires
 put-lengths-requires c κs = omega (arith, table-room _ _ _ _ _ (facts c.before.before))
 
-code-bytes-requires : tie.Need-code-bytes-requires
+code-bytes-requires : tie.Need-code_bytes-code-requires
 code-bytes-requires c κs = search rules
 
-cast-put-be : tie.Need-overflow-cast-put-be
+cast-put-be : tie.Need-overflow_cast-self
 cast-put-be c = search rules
 
-put-be-requires : tie.Need-put-be-requires
+put-be-requires : tie.Need-put_be-requires
 put-be-requires c κs =
     let code = c.before.before in
-    omega (arith, code.code-bytes.ensures, table-room _ _ _ _ _ (facts (accepted-before code)))
+    omega (arith, code.code_bytes-code.ensures, table-room _ _ _ _ _ (facts (accepted-before code)))
 
-add_at : tie.Need-overflow-add-at
+add_at : tie.Need-overflow_add-at
 add_at c = search rules
 
-put-offsets-requires : tie.Need-put-offsets-requires
+put-offsets-requires : tie.Need-put_offsets-requires
 put-offsets-requires c κs =
     let code = code-before c.before.before.before in
-    omega (arith, code.code-bytes.ensures, table-room _ _ _ _ _ (facts (accepted-before code)))
+    omega (arith, code.code_bytes-code.ensures, table-room _ _ _ _ _ (facts (accepted-before code)))
 
-mul-put-offsets : tie.Need-overflow-mul-put-offsets
+mul-put-offsets : tie.Need-overflow_mul-block_offsets
 mul-put-offsets c = search rules
 
-add-put-offsets : tie.Need-overflow-add-put-offsets
+add-put-offsets : tie.Need-overflow_add-at-2
 add-put-offsets c = search rules
 
-put-offsets-requires-2 : tie.Need-put-offsets-requires-2
+put-offsets-requires-2 : tie.Need-put_offsets-requires-2
 put-offsets-requires-2 c κs =
     let code = code-before (blocks-before c) in
-    omega (arith, code.code-bytes.ensures, table-room _ _ _ _ _ (facts (accepted-before code)))
+    omega (arith, code.code_bytes-code.ensures, table-room _ _ _ _ _ (facts (accepted-before code)))
 
-same_length : tie.Need-same-length
+same_length : tie.Need-shape_of-out
 same_length c = search rules
 
-returns-2 : tie.Need-returns-2
+returns-2 : tie.Need-returns
 returns-2 c =
     let pads = c.before.before in
     let blocks = pads.before.before.before.before in
     let code = blocks.before.before.before.before in
     let bytes = code-before code in
-    let lengths = bytes.before.before.before in
+    let lengths = bytes in
     let h = accepted-before bytes in
     let a = h.before.before.before.before.before.args in
     table-put a.grid a.self a.block-offsets.now a.pad-pixel-offsets.now a.out.now (zero h)
-    lengths.before.before.table-bytes.ensures bytes.code-bytes.ensures lengths.put-lengths.ensures
-    code.put-be.ensures blocks.put-offsets.ensures pads.put-offsets2.ensures
+    lengths.table_bytes-size.ensures bytes.code_bytes-code.ensures lengths.put_lengths.ensures
+    code.put_be.ensures blocks.put_offsets.ensures pads.put_offsets-2.ensures
 
 pub to_bytes_spec : {M : Type 1} → statement M
 to_bytes_spec =

@@ -6,21 +6,21 @@ use Rattle.mask.specs.Table.{filled_block}
 use Rattle.mask.proofs.fill.filled_block.Statement.{statement}
 use Rattle.mask.proofs.fill.filled_block.Tie as tie
 
-bands-apart-requires : tie.Need-bands-apart-requires
+bands-apart-requires : tie.Need-bands_apart-requires
 bands-apart-requires c κs = search rules
 
-cast-pick : tie.Need-overflow-cast-pick
+cast-pick : tie.Need-overflow_cast-grid
 cast-pick c = search rules
 
-div-pick : tie.Need-nonzero-div-pick
-div-pick c = (facts _ c.before.before.requires).sides.bands-pos
+div-pick : tie.Need-nonzero_div-k
+div-pick c = (facts _ c.requires).sides.bands-pos
 
 pick-requires : tie.Need-pick-requires
 pick-requires c κs = search rules
 
 returns : tie.Need-returns
 unfolding filled_block
-returns c = rw (c.pick.ensures, c.before.before.bands-apart.ensures)
+returns c = rw (c.pick.ensures, c.bands_apart.ensures)
 
 pub filled_block_spec : {M : Type 1} → statement M
 filled_block_spec =

@@ -7,23 +7,23 @@ use Rattle.mask.specs.Table.{lookup_record}
 use Rattle.mask.proofs.lookup.lookup_record.Statement.{statement}
 use Rattle.mask.proofs.lookup.lookup_record.Tie as tie
 
-block-index-requires : tie.Need-block-index-requires
+block-index-requires : tie.Need-block_index-index-requires
 block-index-requires c κs = search rules
 
-bands-apart-requires : tie.Need-bands-apart-requires
+bands-apart-requires : tie.Need-bands_apart-requires
 bands-apart-requires c κs = search rules
 
-add-pick : tie.Need-overflow-add-pick
+add-pick : tie.Need-overflow_add-index
 add-pick c =
-    let s = c.before.before in
-    rw c.before.block-index.ensures (omega (arith, index_lt _ _ _ s.requires.1, (facts _ s.requires.0).blocks-le))
+    let s = c in
+    rw c.block_index-index.ensures (omega (arith, index_lt _ _ _ s.requires.1, (facts _ s.requires.0).blocks-le))
 
 pick-requires : tie.Need-pick-requires
 pick-requires c κs = search rules
 
 returns : tie.Need-returns
 unfolding lookup_record
-returns c = rw (c.pick.ensures, c.before.bands-apart.ensures, c.before.before.block-index.ensures)
+returns c = rw (c.pick.ensures, c.bands_apart.ensures, c.block_index-index.ensures)
 
 pub lookup_record_spec : {M : Type 1} → statement M
 lookup_record_spec =

@@ -14,13 +14,13 @@ unfolding some
 some-last true = refl
 some-last false = refl
 
-returns : tie.Need-returns
+returns : tie.Need-returns-then-n-eq0
 unfolding is_record_length some
-returns c = rw (eq-eqb _ 0 c.if1.true)
+returns c = rw (eq-eqb _ 0 c.if-n-eq0.true)
 
-returns-2 : tie.Need-returns-2
+returns-2 : tie.Need-returns
 unfolding is_record_length some
-returns-2 c = rw (ne_eqb _ 0 c.if1.false) (some-last _)
+returns-2 c = rw (ne_eqb _ 0 c.if-n-eq0.false) (some-last _)
 
 pub is_record_length_spec : {M : Type 1} → statement M
 is_record_length_spec = tie.close (tie.spec returns returns-2)

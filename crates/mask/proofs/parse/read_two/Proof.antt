@@ -6,15 +6,15 @@ use Rattle.mask.proofs.Fields.{read_lt}
 use Rattle.mask.proofs.parse.read_two.Statement.{statement}
 use Rattle.mask.proofs.parse.read_two.Tie as tie
 
-get-be-requires : tie.Need-get-be-requires
+get-be-requires : tie.Need-get_be-requires
 get-be-requires c κs = search rules
 
-cast-result : tie.Need-overflow-cast-result
+cast-result : tie.Need-overflow_cast-result
 cast-result c =
-    let known = c.before in
-    let table = known.before.args.table.now in
-    let bytes : Bytes table = λ i. (known.shared-slice-known.given i).fits in
-    record { fits = read_lt table _ 2 bytes c.get-be.ensures }
+    let known = c in
+    let table = known.args.table.now in
+    let bytes : Bytes table = λ i. (known.shared_slice_known-1.given i).fits in
+    record { fits = read_lt table _ 2 bytes c.get_be.ensures }
 
 returns : tie.Need-returns
 returns c = search rules

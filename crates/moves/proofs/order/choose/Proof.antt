@@ -16,65 +16,65 @@ use Rattle.moves.proofs.order.choose.Statement.{statement}
 use Rattle.moves.proofs.order.choose.Tie as tie
 
 -- past the first test: the layout has strides
-evenly : (c : tie.Else1) → has_strides c.before.before.before.before.args.layout ≡ true
-evenly c = yes c.before.has-strides.ensures c.if1.false
+evenly : (c : tie.Else-not-has_strides) → has_strides c.args.layout ≡ true
+evenly c = yes c.has_strides.ensures c.if-not-has_strides.false
 
 -- samples of a row do not meet
-step-pos : (c : tie.After-strides) → 0 < c.strides.result.column
+step-pos : (c : tie.After-strides-by) → 0 < c.strides-by.result.column
 step-pos c =
-    let s = c.before.before in
+    let s = c in
     let f = s.requires.0 in
-    rw c.strides.ensures (omega (arith, stride-wide s.args.layout f, (sample-size s.args.layout f).bits_pos))
+    rw c.strides-by.ensures (omega (arith, stride-wide s.args.layout f, (sample-size s.args.layout f).bits_pos))
 
-cast-width : tie.Need-overflow-cast-width
+cast-width : tie.Need-overflow_cast-width
 cast-width c = search rules
 
-strides-requires : tie.Need-strides-requires
+strides-requires : tie.Need-strides-by-requires
 strides-requires c κs = search rules
 
-has-strides-requires : tie.Need-has-strides-requires
+has-strides-requires : tie.Need-has_strides-requires
 has-strides-requires c κs = search rules
 
 ordered-requires : tie.Need-ordered-requires
 ordered-requires c κs = search rules
 
-returns : tie.Need-returns
+returns : tie.Need-returns-then-not-has_strides
 returns c =
-    let some = c.before.before.before.before.before.requires.1.2 in
+    let some = c.requires.1.2 in
     chosen _ _ _ _ _ 1 1 _ Runs (omega arith) (omega arith) some c.ordered.ensures (refl, refl) tt
 
-long-pixels-requires : tie.Need-long-pixels-requires
+long-pixels-requires : tie.Need-long_pixels-requires
 long-pixels-requires c κs = search rules
 
-ordered-requires-2 : tie.Need-ordered-requires-2
+ordered-requires-2 : tie.Need-ordered-requires-then-long_pixels
 ordered-requires-2 c κs = search rules
 
-returns-2 : tie.Need-returns-2
+returns-2 : tie.Need-returns-then-long_pixels
 returns-2 c =
     let long = c.before.before in
-    let h = long.long-pixels.ensures c.before.if3.true in
+    let h = long.long_pixels.ensures c.if-long_pixels.true in
     let past = long.before.before in
-    let e = past.before.before.strides.ensures in
-    let some = past.before.before.before.before.requires.1.2 in
-    chosen _ _ _ _ _ _ 1 _ Pixels long.before.if2.true (omega arith) some c.ordered2.ensures
-    (evenly past, refl, sym (ap (λ (x : Strides). x.band) e) ∙ h.0, h.1) (long.before.if2.true, refl)
+    let e = past.strides-by.ensures in
+    let some = past.requires.1.2 in
+    chosen _ _ _ _ _ _ 1 _ Pixels long.if-together-gt0.true (omega arith) some c.ordered-then-long_pixels.ensures
+    (evenly past, refl, sym (ap (λ (x : Strides). x.band) e) ∙ h.0, h.1) (long.if-together-gt0.true, refl)
 
-rows-together-requires : tie.Need-rows-together-requires
+rows-together-requires : tie.Need-rows_together-r-requires
 rows-together-requires c κs = search rules
 
-columns-together-requires : tie.Need-columns-together-requires
+columns-together-requires : tie.Need-columns_together-c-requires
 columns-together-requires c κs =
     let s = c.before.before.before.before in
-    (step-pos s, s.before.before.requires.1.2)
+    (step-pos s, s.requires.1.2)
 
-ordered-requires-3 : tie.Need-ordered-requires-3
+ordered-requires-3 : tie.Need-ordered-requires-2
 ordered-requires-3 c κs = search rules
 
-returns-3 : tie.Need-returns-3
+returns-3 : tie.Need-returns
 returns-3 c =
     let rows = c.before.before in
-    chosen _ _ _ _ _ 1 _ _ Rows (omega arith) rows.rows-together.ensures c.before.columns-together.ensures
-    c.ordered3.ensures (evenly rows.before.before, refl) tt
+    chosen _ _ _ _ _ 1 _ _ Rows (omega arith) rows.rows_together-r.ensures c.columns_together-c.ensures
+    c.ordered-2.ensures (evenly rows.before.before, refl) tt
 
 pub choose_spec : {M : Type 1} → statement M
 choose_spec =

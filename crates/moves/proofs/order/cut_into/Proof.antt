@@ -14,13 +14,13 @@ rounded_up n v hn hv =
     let e : n - 1 + v ≡ n + (v - 1) = omega arith in
     omega (arith, add-div_right (n - 1) hv, ap (λ (x : ℕ). x / v) e)
 
-sub-t3 : tie.Need-overflow-sub-t3
+sub-t3 : tie.Need-overflow_sub-result
 sub-t3 c = search rules
 
-div-t4 : tie.Need-nonzero-div-t4
+div-t4 : tie.Need-nonzero_div-result
 div-t4 c = search rules
 
-add-t5 : tie.Need-overflow-add-t5
+add-t5 : tie.Need-overflow_add-result
 add-t5 c = omega (arith, div-le_self (c.args.length - 1) c.args.most)
 
 returns : tie.Need-returns

@@ -30,56 +30,56 @@ listed s e =
     = rw h.0 (listed-count a.layout.bands a.bands.now) in
     (h.0, omega (arith, s.requires.1.1.0.bands-cut.some, h.1, n))
 
-enum_told : tie.Need-enum-told
+enum_told : tie.Need-enum_told-1
 enum_told c = search rules
 
-read-bands-requires : tie.Need-read-bands-requires
+read-bands-requires : tie.Need-read_bands-requires
 read-bands-requires c κs =
-    let s = c.before.before.before.before.before.before in
-    let w = way-fits s Rows c.before.enum_told.given.1 in
+    let s = c.before.before.before.before.before in
+    let w = way-fits s Rows c.in-Rows.is in
     (s.requires.0, (s.requires.1.0, (s.requires.1.1.0.inside, w.0)))
 
-enum-told-2 : tie.Need-enum-told-2
+enum-told-2 : tie.Need-enum_told-in-Pixels
 enum-told-2 c = search rules
 
-read-pixels-requires : tie.Need-read-pixels-requires
+read-pixels-requires : tie.Need-read_pixels-requires
 read-pixels-requires c κs =
-    let s = c.before.before.before.before.before.before in
-    let e = c.before.enum-told2.given.1 in
+    let s = c.before.before.before.before.before in
+    let e = c.in-Pixels.is in
     let h = listed s e in
     let n = sym (listed-count s.args.layout.bands s.args.bands.now) in
     (s.requires.0, (rw h.0 at s.requires.1.0, (bands-inside s.requires.1.1.0.inside _ h.1 n, way-fits s Pixels e)))
 
-enum-told-3 : tie.Need-enum-told-3
+enum-told-3 : tie.Need-enum_told-in-Runs
 enum-told-3 c = search rules
 
-read-lines-requires : tie.Need-read-lines-requires
+read-lines-requires : tie.Need-read_lines-requires
 read-lines-requires c κs =
-    let s = c.before.before.before.before.before.before in
-    let w = way-fits s Runs c.before.enum-told3.given.1 in
+    let s = c.before.before.before.before.before in
+    let w = way-fits s Runs c.in-Runs.is in
     (s.requires.0, (s.requires.1.0, (s.requires.1.1.0.inside, w.0)))
 
-same_length : tie.Need-same-length
+same_length : tie.Need-shape_of-out-in-Rows
 same_length c = search rules
 
-returns : tie.Need-returns
+returns : tie.Need-returns-in-Rows
 returns c = search rules
 
-same-length-2 : tie.Need-same-length-2
+same-length-2 : tie.Need-shape_of-out-in-Pixels
 same-length-2 c = search rules
 
-returns-2 : tie.Need-returns-2
+returns-2 : tie.Need-returns-in-Pixels
 returns-2 c =
     let told = c.before.before.before.before in
-    let s = told.before.before.before.before.before in
-    let h = listed s told.enum-told2.given.1 in
+    let s = told.before.before.before.before in
+    let h = listed s told.in-Pixels.is in
     let n = sym (listed-count s.args.layout.bands s.args.bands.now) in
-    rw h.0 (bands-at_once _ _ n c.before.before.read-pixels.ensures)
+    rw h.0 (bands-at_once _ _ n c.read_pixels.ensures)
 
-same-length-3 : tie.Need-same-length-3
+same-length-3 : tie.Need-shape_of-out-in-Runs
 same-length-3 c = search rules
 
-returns-3 : tie.Need-returns-3
+returns-3 : tie.Need-returns-in-Runs
 returns-3 c = search rules
 
 pub read_area_spec : {M : Type 1} → statement M

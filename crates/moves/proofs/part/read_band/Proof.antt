@@ -22,47 +22,47 @@ placed : (s : tie.Start)
     → let a = s.args in
     let d = a.sides in
     Placed a.layout (length a.src.now) d.part (asked s) d.rows d.columns (length a.out.now)
-    d.image d.planes (band_of a.area a.k)
+    d.image-1 d.planes-1 (band_of a.area a.k)
 placed s =
     let p = s.requires in
     record {
       readable = p.1.0;
-      image-is = ap (λ (x : Sides). x.image) p.0;
-      planes_are = ap (λ (x : Sides). x.planes) p.0;
+      image-is = ap (λ (x : Sides). x.image-1) p.0;
+      planes_are = ap (λ (x : Sides). x.planes-1) p.0;
       in-part = p.1.1.0;
     }
 
 band_in : (s : tie.Start) (b : ℕ) → b ≡ band_at (asked s) s.args.k → b < s.args.layout.bands
 band_in s b e = rw e (band_lt _ _ s.requires.1.0.bands_in _ (omega (arith, s.requires.1.1.0.in_bands.ends)))
 
-abbrev start : tie.After-band-at → tie.Start
+abbrev start : tie.After-band_at-b → tie.Start
 start c = c.before.before.before.before.before.before
 
-band-at-requires : tie.Need-band-at-requires
+band-at-requires : tie.Need-band_at-b-requires
 band-at-requires c κs = search rules
 
-at-requires : tie.Need-at-requires
+at-requires : tie.Need-at-at-requires
 at-requires c κs =
     let s = start c in
-    at-fits (placed s) s.pre.1.1.1 _ (band_in s _ c.band-at.ensures)
+    at-fits (placed s) s.requires.1.1.1 _ (band_in s _ c.band_at-b.ensures)
 
-at-requires-2 : tie.Need-at-requires-2
+at-requires-2 : tie.Need-at-to-requires
 at-requires-2 c κs = to_fits (placed (start c.before)) (omega arith)
 
-cast-read-rows : tie.Need-overflow-cast-read-rows
+cast-read-rows : tie.Need-overflow_cast-layout
 cast-read-rows c = search rules
 
-read-rows-requires : tie.Need-read-rows-requires
+read-rows-requires : tie.Need-read_rows-requires
 read-rows-requires c κs =
     let to = c.before.before in
     let b = to.before.before in
     let s = start b in
-    let m = rows_move (placed s) s.pre.1.1.1 _ (band_in s _ b.band-at.ensures) to.before.at.ensures in (
+    let m = rows_move (placed s) s.requires.1.1.1 _ (band_in s _ b.band_at-b.ensures) to.at-at.ensures in (
       (m.bits_le, m.bytes_le, m.narrow),
-      (m.movable, (s.pre.1.1.0.in_rows.some, rows-room (placed s) to.at2.ensures)),
+      (m.movable, (s.requires.1.1.0.in_rows.some, rows-room (placed s) to.at-to.ensures)),
     )
 
-same_length : tie.Need-same-length
+same_length : tie.Need-shape_of-out
 same_length c = search rules
 
 returns : tie.Need-returns
@@ -70,8 +70,8 @@ returns c =
     let to = c.before.before.before.before.before in
     let b = to.before.before in
     let s = start b in
-    rows-read _ (placed s) to.at2.ensures s.pre.1.1.1 _ refl refl b.band-at.ensures to.before.at.ensures
-    c.before.before.read-rows.ensures
+    rows-read _ (placed s) to.at-to.ensures s.requires.1.1.1 _ refl refl b.band_at-b.ensures to.at-at.ensures
+    c.read_rows.ensures
 
 pub read_band_spec : {M : Type 1} → statement M
 read_band_spec =

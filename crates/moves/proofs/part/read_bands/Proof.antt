@@ -12,52 +12,52 @@ use Rattle.moves.proofs.Orders.{BandsBefore, no-bands, band-turn, bands-done, ba
 use Rattle.moves.proofs.part.read_bands.Statement.{statement}
 use Rattle.moves.proofs.part.read_bands.Tie as tie
 
-abbrev invariant-loop : tie.invariant-loop
+abbrev invariant-loop : tie.invariant-loop-k
 invariant-loop src layout sides all bands area out₀ k₀ k-end out k =
     (k ≤ k-end) × Puts (answer_target layout src sides.part (bands_of all bands) sides.rows sides.columns)
     (BandsBefore area k) out₀ out
 
-abbrev decreases-loop : tie.decreases-loop
+abbrev decreases-loop : tie.decreases-loop-k
 decreases-loop src layout sides all bands area out₀ k₀ k-end out k = k-end - k
 
-abbrev start : tie.In-loop invariant-loop decreases-loop → tie.Start invariant-loop decreases-loop
+abbrev start : tie.In-loop-k invariant-loop decreases-loop → tie.Start invariant-loop decreases-loop
 start c = c.before.before.before.before.before.before
 
-in_turn : (c : tie.In-loop invariant-loop decreases-loop)
-    → let a = (start c).args in c.before.loop.k < band_count a.layout.bands (bands_of a.all a.bands.now)
-in_turn c = omega (arith, c.loop-test.true, c.before.before.band-count.ensures)
+in_turn : (c : tie.In-loop-k invariant-loop decreases-loop)
+    → let a = (start c).args in c.loop-k.k < band_count a.layout.bands (bands_of a.all a.bands.now)
+in_turn c = omega (arith, c.loop-k-test.true, c.band_count-k-end.ensures)
 
-band-count-requires : tie.Need-band-count-requires invariant-loop decreases-loop
+band-count-requires : tie.Need-band_count-k-end-requires invariant-loop decreases-loop
 band-count-requires c κs = search rules
 
-loop-holds : tie.Need-loop-init invariant-loop decreases-loop
-loop-holds c = (omega arith, no-bands _ c.before.before.before.before.args.area _)
+loop-holds : tie.Need-loop-k-init invariant-loop decreases-loop
+loop-holds c = (omega arith, no-bands _ c.args.area _)
 
-read-band-requires : tie.Need-read-band-requires invariant-loop decreases-loop
+read-band-requires : tie.Need-read_band-requires invariant-loop decreases-loop
 read-band-requires c κs =
     let turn = c.before in
     let s = start turn in
-    let t = own-readable s.pre.0 _ _ s.pre.1.0 turn.before.loop.invariant.1.size in
-    (s.pre.0, (t, (band-inside s.pre.1.1.0 _ (in_turn turn), s.pre.1.1.1)))
+    let t = own-readable s.requires.0 _ _ s.requires.1.0 turn.loop-k.invariant.1.size in
+    (s.requires.0, (t, (band-inside s.requires.1.1.0 _ (in_turn turn), s.requires.1.1.1)))
 
-add-k : tie.Need-overflow-add-k invariant-loop decreases-loop
+add-k : tie.Need-overflow_step-k invariant-loop decreases-loop
 add-k c = omega arith
 
-loop-less : tie.Need-loop-smaller invariant-loop decreases-loop
+loop-less : tie.Need-loop-k-smaller invariant-loop decreases-loop
 loop-less c = omega arith
 
-loop-again : tie.Need-loop-preserved invariant-loop decreases-loop
+loop-again : tie.Need-loop-k-preserved invariant-loop decreases-loop
 loop-again c =
-    let turn = c.before.before.before.before in (
-      omega (arith, turn.loop-test.true),
-      band-turn _ _ turn.before.loop.invariant.1 c.before.before.read-band.ensures,
+    let turn = c in (
+      omega (arith, turn.loop-k-test.true),
+      band-turn _ _ turn.loop-k.invariant.1 c.read_band.ensures,
     )
 
-same_length : tie.Need-same-length invariant-loop decreases-loop
-same_length c = c.before.loop.invariant.1.size
+same_length : tie.Need-shape_of-out invariant-loop decreases-loop
+same_length c = c.loop-k.invariant.1.size
 
 returns : tie.Need-returns invariant-loop decreases-loop
-returns c = bands-done _ _ (omega (arith, c.loop-test.false, c.before.before.band-count.ensures)) c.before.loop.invariant.1
+returns c = bands-done _ _ (omega (arith, c.loop-k-test.false, c.band_count-k-end.ensures)) c.loop-k.invariant.1
 
 pub read_bands_spec : {M : Type 1} → statement M
 read_bands_spec =

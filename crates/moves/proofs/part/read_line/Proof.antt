@@ -22,64 +22,64 @@ asked s = bands_of s.args.all s.args.bands.now
 placed : (s : tie.Start)
     → let a = s.args in
     let d = a.sides in
-    Placed a.layout (length a.src.now) d.part (asked s) d.rows d.columns (length a.out.now)
-    d.image d.planes (band_of a.area a.k)
+    Placed a.layout (length a.src.now) d.part-1 (asked s) d.rows d.columns (length a.out.now)
+    d.image d.planes-1 (band_of a.area a.k)
 placed s =
     let p = s.requires in
     record {
       readable = p.1.0;
       image-is = ap (λ (x : Sides). x.image) p.0;
-      planes_are = ap (λ (x : Sides). x.planes) p.0;
+      planes_are = ap (λ (x : Sides). x.planes-1) p.0;
       in-part = p.1.1.0;
     }
 
 band_in : (s : tie.Start) (b : ℕ) → b ≡ band_at (asked s) s.args.k → b < s.args.layout.bands
 band_in s b e = rw e (band_lt _ _ s.requires.1.0.bands_in _ (omega (arith, s.requires.1.1.0.in_bands.ends)))
 
-abbrev start : tie.After-band-at → tie.Start
+abbrev start : tie.After-band_at-b → tie.Start
 start c = c.before.before.before.before.before.before
 
-band-at-requires : tie.Need-band-at-requires
+band-at-requires : tie.Need-band_at-b-requires
 band-at-requires c κs = search rules
 
-at-requires : tie.Need-at-requires
+at-requires : tie.Need-at-to-requires
 at-requires c κs = to_fits (placed (start c)) (omega arith)
 
-add_r : tie.Need-overflow-add-r
+add_r : tie.Need-overflow_add-r
 add_r c =
     let s = start c.before.before in
-    let t = s.pre.1.0 in
-    omega (arith, s.pre.1.1.0.in_rows, t.in_rows, (strides_fit _ t.accepted).rows-le)
+    let t = s.requires.1.0 in
+    omega (arith, s.requires.1.1.0.in_rows, t.in_rows, (strides_fit _ t.accepted).rows-le)
 
-add-c : tie.Need-overflow-add-c
+add-c : tie.Need-overflow_add-c
 add-c c =
     let s = start c.before.before.before in
-    let t = s.pre.1.0 in
-    omega (arith, s.pre.1.1.0.in_columns, t.in_columns, (strides_fit _ t.accepted).columns-le)
+    let t = s.requires.1.0 in
+    omega (arith, s.requires.1.1.0.in_columns, t.in_columns, (strides_fit _ t.accepted).columns-le)
 
-read-row-requires : tie.Need-read-row-requires
+read-row-requires : tie.Need-read_row-requires
 read-row-requires c κs =
     let to = c.before.before.before in
     let s = start to.before in
-    let t = s.pre.1.0 in
-    let i = s.pre.1.1.0 in
-    let b = band_in s _ to.before.band-at.ensures in (
+    let t = s.requires.1.0 in
+    let i = s.requires.1.1.0 in
+    let b = band_in s _ to.band_at-b.ensures in (
       t.accepted,
       (
         record { in_b = b; in_r = omega (arith, i.in_rows, t.in_rows); in_c = omega (arith, i.in_columns, t.in_columns) },
-        ((omega (arith, i.in_columns, t.in_columns), t.reached), row_room (placed s) to.at.ensures),
+        ((omega (arith, i.in_columns, t.in_columns), t.reached), row_room (placed s) to.at-to.ensures),
       ),
     )
 
-same_length : tie.Need-same-length
+same_length : tie.Need-shape_of-out
 same_length c = search rules
 
 returns : tie.Need-returns
 returns c =
     let to = c.before.before.before.before.before.before in
     let s = start to.before in
-    row_read_lem _ (placed s) to.at.ensures _ refl s.pre.1.1.1 refl to.before.band-at.ensures
-    c.before.before.read-row.ensures
+    row_read_lem _ (placed s) to.at-to.ensures _ refl s.requires.1.1.1 refl to.band_at-b.ensures
+    c.read_row.ensures
 
 pub read_line_spec : {M : Type 1} → statement M
 read_line_spec =

@@ -19,70 +19,70 @@ use Rattle.moves.proofs.Orders.{area_within, area_follows, area-moves, order_lis
 use Rattle.moves.proofs.part.read_part.Statement.{statement}
 use Rattle.moves.proofs.part.read_part.Tie as tie
 
-abbrev invariant-loop : tie.invariant-loop
+abbrev invariant-loop : tie.invariant-loop-k
 invariant-loop src layout all bands rows columns out₀ count together order sides area₀ k₀ k-end out area k =
     (k ≤ k-end) × Puts (answer_target layout src sides.part (bands_of all bands) sides.rows sides.columns)
     (AreasBefore order k) out₀ out
     × (k < area_count order → area ≡ area_of order k)
 
-abbrev decreases-loop : tie.decreases-loop
+abbrev decreases-loop : tie.decreases-loop-k
 decreases-loop src layout all bands rows columns out₀ count together order sides area₀ k₀ k-end out area k = k-end - k
 
 -- before the loop, in a turn, and the function's start
-abbrev numbers : tie.In-loop invariant-loop decreases-loop → tie.After-both-sides invariant-loop decreases-loop
+abbrev numbers : tie.In-loop-k invariant-loop decreases-loop → tie.After-both_sides-sides invariant-loop decreases-loop
 numbers c = c.before.before.before.before
 
 -- the area of a turn
-in_turn : (c : tie.In-loop invariant-loop decreases-loop) → c.before.loop.k < area_count (numbers c).before.choose.result
-in_turn c = omega (arith, c.loop-test.true, c.before.before.areas.ensures)
+in_turn : (c : tie.In-loop-k invariant-loop decreases-loop) → c.loop-k.k < area_count (numbers c).choose-order.result
+in_turn c = omega (arith, c.loop-k-test.true, c.areas-k-end.ensures)
 
-area_is : (c : tie.In-loop invariant-loop decreases-loop)
-    → c.before.loop.area ≡ area_of (numbers c).before.choose.result c.before.loop.k
-area_is c = c.before.loop.invariant.2 (in_turn c)
+area_is : (c : tie.In-loop-k invariant-loop decreases-loop)
+    → c.loop-k.area ≡ area_of (numbers c).choose-order.result c.loop-k.k
+area_is c = c.loop-k.invariant.2 (in_turn c)
 
-abbrev start : tie.After-both-sides invariant-loop decreases-loop → tie.Start invariant-loop decreases-loop
+abbrev start : tie.After-both_sides-sides invariant-loop decreases-loop → tie.Start invariant-loop decreases-loop
 start c = c.before.before.before.before.before.before.before.before
 
 -- the order, told by the part that the code has
-order_is : (c : tie.After-both-sides invariant-loop decreases-loop)
-    → let a = (start c).args in let p = c.both-sides.result.part in
-    Chosen a.layout c.before.before.listed-together.result
+order_is : (c : tie.After-both_sides-sides invariant-loop decreases-loop)
+    → let a = (start c).args in let p = c.both_sides-sides.result.part in
+    Chosen a.layout c.listed_together-together.result
     (band_count a.layout.bands (bands_of a.all a.bands.now)) p.rows p.columns
-    c.before.choose.result
+    c.choose-order.result
 order_is c =
-    let e = c.before.before.before.before.band-count.ensures in
-    own_order c.both-sides.ensures _ e c.before.choose.ensures
+    let e = c.band_count-count.ensures in
+    own_order c.both_sides-sides.ensures _ e c.choose-order.ensures
 
 in_out : (s : tie.Start invariant-loop decreases-loop) → length s.args.out.now < 2 ^ 64
 in_out s = omega arith
 
 -- some band is asked for
-some : (c : tie.Else1 invariant-loop decreases-loop)
-    → let a = c.before.before.before.before.before.args in
+some : (c : tie.Else-count-eq0 invariant-loop decreases-loop)
+    → let a = c.args in
     0 < band_count a.layout.bands (bands_of a.all a.bands.now)
-some c = omega (arith, c.before.band-count.ensures, c.if1.false)
+some c = omega (arith, c.band_count-count.ensures, c.if-count-eq0.false)
 
-band-count-requires : tie.Need-band-count-requires invariant-loop decreases-loop
+band-count-requires : tie.Need-band_count-count-requires invariant-loop decreases-loop
 band-count-requires c κs = search rules
 
-returns : tie.Need-returns invariant-loop decreases-loop
+returns : tie.Need-returns-then-count-eq0 invariant-loop decreases-loop
 returns c =
-    let s = c.before.before.before.before.before in
+    let s = c in
     let t = s.requires in
-    let e = c.before.band-count.ensures in
+    let e = c.band_count-count.ensures in
     answer-done _ _ _ _ _ _ (sample-size _ t.accepted).some t.to_rows t.to_columns
     (puts_none _ {some = λ k i j. ⊥} _ (λ k i j h. h))
-    (λ k i j a. omega (arith, a.in_b, c.if1.true))
+    (λ k i j a. omega (arith, a.in_b, c.if-count-eq0.true))
 
-listed-together-requires : tie.Need-listed-together-requires invariant-loop decreases-loop
+listed-together-requires : tie.Need-listed_together-together-requires invariant-loop decreases-loop
 listed-together-requires c κs = search rules
 
-choose-requires : tie.Need-choose-requires invariant-loop decreases-loop
+choose-requires : tie.Need-choose-order-requires invariant-loop decreases-loop
 choose-requires c κs =
-    let t = c.before.before.before.before.before.before.requires in
-    (t.accepted, (omega (arith, c.before.if1.false), t.some-rows, t.some-columns))
+    let t = c.requires in
+    (t.accepted, (omega (arith, c.if-count-eq0.false), t.some-rows, t.some-columns))
 
-both-sides-requires : tie.Need-both-sides-requires invariant-loop decreases-loop
+both-sides-requires : tie.Need-both_sides-sides-requires invariant-loop decreases-loop
 both-sides-requires c κs =
     let s = c.before.before.before.before.before.before.before in
     let t = s.requires in
@@ -98,67 +98,67 @@ both-sides-requires c κs =
       ),
     )
 
-first-area-requires : tie.Need-first-area-requires invariant-loop decreases-loop
+first-area-requires : tie.Need-first_area-area-requires invariant-loop decreases-loop
 first-area-requires c κs =
     let t = (start c).requires in
-    let chosen = c.before.choose.ensures in
+    let chosen = c.choose-order.ensures in
     (omega (arith, t.some-rows, chosen.rows_are), omega (arith, t.some-columns, chosen.columns_are))
 
-areas-requires : tie.Need-areas-requires invariant-loop decreases-loop
+areas-requires : tie.Need-areas-k-end-requires invariant-loop decreases-loop
 areas-requires c κs =
     let s = start c.before in
-    let n = c.before.before.before.before in
-    let g = samples-fit _ _ _ _ _ _ _ s.pre (in_out s) in
-    areas_fit c.before.before.choose.ensures (rw n.before.band-count.ensures g)
-    (omega (arith, n.if1.false))
+    let n = c in
+    let g = samples-fit _ _ _ _ _ _ _ s.requires (in_out s) in
+    areas_fit c.choose-order.ensures (rw n.band_count-count.ensures g)
+    (omega (arith, n.if-count-eq0.false))
 
-loop-holds : tie.Need-loop-init invariant-loop decreases-loop
+loop-holds : tie.Need-loop-k-init invariant-loop decreases-loop
 loop-holds c =
-    (omega arith, no_area _ c.before.before.before.choose.result _, λ h. c.before.first-area.ensures)
+    (omega arith, no_area _ c.choose-order.result _, λ h. c.first_area-area.ensures)
 
-read-area-requires : tie.Need-read-area-requires invariant-loop decreases-loop
+read-area-requires : tie.Need-read_area-requires invariant-loop decreases-loop
 read-area-requires c κs =
     let turn = c.before in
     let n = numbers turn in
     let s = start n in
-    let count = n.before.before.before.before in
-    let e = count.band-count.ensures in
-    let few = n.before.before.listed-together.ensures in
+    let count = n in
+    let e = count.band_count-count.ensures in
+    let few = n.listed_together-together.ensures in
     let listed = order_listed (order_is n) _ (λ g. let f = few g in (f.0, f.1 ∙ e)) in
     let moves = area-moves (order_is n) _ (in_turn turn) (area_is turn) (omega (arith, e)) in
-    let t = own-readable n.both-sides.ensures _ _ s.pre turn.before.loop.invariant.1.size in
-    (own-sides _ n.both-sides.ensures, (t, (moves, listed)))
+    let t = own-readable n.both_sides-sides.ensures _ _ s.requires turn.loop-k.invariant.1.size in
+    (own-sides _ n.both_sides-sides.ensures, (t, (moves, listed)))
 
-next-area-requires : tie.Need-next-area-requires invariant-loop decreases-loop
+next-area-requires : tie.Need-next_area-area-requires invariant-loop decreases-loop
 next-area-requires c κs =
     let turn = c.before.before.before.before in area_within (order_is (numbers turn)) _ (in_turn turn) (area_is turn)
 
-add-k : tie.Need-overflow-add-k invariant-loop decreases-loop
+add-k : tie.Need-overflow_step-k invariant-loop decreases-loop
 add-k c = omega arith
 
-loop-less : tie.Need-loop-smaller invariant-loop decreases-loop
+loop-less : tie.Need-loop-k-smaller invariant-loop decreases-loop
 loop-less c = omega arith
 
-loop-again : tie.Need-loop-preserved invariant-loop decreases-loop
+loop-again : tie.Need-loop-k-preserved invariant-loop decreases-loop
 loop-again c =
     let turn = c.before.before.before.before.before in
     let n = numbers turn in
     let h = in_turn turn in
-    let read = c.before.before.before.read-area.ensures in
-    let puts = area_turn _ (order_is n) _ (area_is turn) turn.before.loop.invariant.1 read in
-    (omega (arith, turn.loop-test.true), puts, area_follows (order_is n) _ h (area_is turn) c.next-area.ensures)
+    let read = c.read_area.ensures in
+    let puts = area_turn _ (order_is n) _ (area_is turn) turn.loop-k.invariant.1 read in
+    (omega (arith, turn.loop-k-test.true), puts, area_follows (order_is n) _ h (area_is turn) c.next_area-area.ensures)
 
-same_length : tie.Need-same-length invariant-loop decreases-loop
-same_length c = c.before.loop.invariant.1.size
+same_length : tie.Need-shape_of-out invariant-loop decreases-loop
+same_length c = c.loop-k.invariant.1.size
 
-returns-2 : tie.Need-returns-2 invariant-loop decreases-loop
+returns-2 : tie.Need-returns invariant-loop decreases-loop
 returns-2 c =
     let n = c.before.before.before.before in
     let t = (start n).requires in
-    let e : c.before.loop.k ≡ area_count n.before.choose.result
-    = omega (arith, c.before.before.areas.ensures) in
-    let all = areas_done _ (order_is n) c.before.loop.k e in
-    read_done _ _ _ _ _ _ _ _ n.both-sides.ensures t c.before.loop.invariant.1 all
+    let e : c.loop-k.k ≡ area_count n.choose-order.result
+    = omega (arith, c.areas-k-end.ensures) in
+    let all = areas_done _ (order_is n) c.loop-k.k e in
+    read_done _ _ _ _ _ _ _ _ n.both_sides-sides.ensures t c.loop-k.invariant.1 all
 
 pub read_part_spec : {M : Type 1} → statement M
 read_part_spec =

@@ -23,45 +23,45 @@ placed : (s : tie.Start)
     → let a = s.args in
     let d = a.sides in
     Placed a.layout (length a.src.now) d.part (asked s) d.rows d.columns (length a.out.now)
-    d.image d.planes (bands_of_area a.area (length a.bands.now))
+    d.image-1 d.planes-1 (bands_of_area a.area (length a.bands.now))
 placed s =
     let p = s.requires in
     record {
       readable = p.1.0;
-      image-is = ap (λ (x : Sides). x.image) p.0;
-      planes_are = ap (λ (x : Sides). x.planes) p.0;
+      image-is = ap (λ (x : Sides). x.image-1) p.0;
+      planes_are = ap (λ (x : Sides). x.planes-1) p.0;
       in-part = p.1.1.0;
     }
 
-abbrev start : tie.After-at → tie.Start
+abbrev start : tie.After-at-at → tie.Start
 start c = c.before.before.before.before.before.before
 
-at-requires : tie.Need-at-requires
+at-requires : tie.Need-at-at-requires
 at-requires c κs =
     let s = c.before.before.before.before.before in
     at-fits (placed s) s.requires.1.1.1.0 0 s.requires.1.0.accepted.some-bands
 
-at-requires-2 : tie.Need-at-requires-2
+at-requires-2 : tie.Need-at-to-requires
 at-requires-2 c κs = to_fits (placed (start c)) (omega arith)
 
-gather-listed-requires : tie.Need-gather-listed-requires
+gather-listed-requires : tie.Need-gather_listed-requires
 gather-listed-requires c κs =
     let to = c.before.before in
     let at = to.before in
     let s = start at in
-    let w = s.pre.1.1.1 in
-    let t = s.pre.1.0 in
-    let i = s.pre.1.1.0.in_bands in
+    let w = s.requires.1.1.1 in
+    let t = s.requires.1.0 in
+    let i = s.requires.1.1.0.in_bands in
     record {
-      size-le = (rows_move (placed s) w.0 0 t.accepted.some-bands at.at.ensures).bytes_le;
+      size-le = (rows_move (placed s) w.0 0 t.accepted.some-bands at.at-at.ensures).bytes_le;
       some = i.some;
       inside = λ k l.
           let b = band_lt _ _ t.bands_in k (omega (arith, l, listed-count s.args.layout.bands s.args.bands.now)) in
-          pixels-end (placed s) w.0 w.2 w.3 0 _ (omega (arith, b, listed_at s.args.bands.now k)) at.at.ensures;
-      room = bands-room (placed s) to.at2.ensures;
+          pixels-end (placed s) w.0 w.2 w.3 0 _ (omega (arith, b, listed_at s.args.bands.now k)) at.at-at.ensures;
+      room = bands-room (placed s) to.at-to.ensures;
     }
 
-same_length : tie.Need-same-length
+same_length : tie.Need-shape_of-out
 same_length c = search rules
 
 returns : tie.Need-returns
@@ -69,11 +69,11 @@ returns c =
     let to = c.before.before.before.before.before in
     let at = to.before in
     let s = start at in
-    let w = s.pre.1.1.1 in
-    pixels-read _ (placed s) to.at2.ensures w.0 s.args.bands.now
-    (λ i. (at.before.before.before.before.before.shared-slice-known.given i).fits) refl refl
+    let w = s.requires.1.1.1 in
+    pixels-read _ (placed s) to.at-to.ensures w.0 s.args.bands.now
+    (λ i. (at.shared_slice_known-1.given i).fits) refl refl
     (listed_at s.args.bands.now)
-    refl w.1 w.2 w.3 at.at.ensures c.before.before.gather-listed.ensures
+    refl w.1 w.2 w.3 at.at-at.ensures c.gather_listed.ensures
 
 pub read_pixels_spec : {M : Type 1} → statement M
 read_pixels_spec =

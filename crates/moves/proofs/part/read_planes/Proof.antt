@@ -5,20 +5,20 @@ use Rattle.moves.proofs.part.read_planes.Statement.{statement}
 use Rattle.moves.proofs.part.read_planes.Tie as tie
 use Rattle.moves.proofs.Whole.{whole-readable, whole-done}
 
-whole-part-requires : tie.Need-whole-part-requires
+whole-part-requires : tie.Need-whole_part-part-requires
 whole-part-requires c κs = search rules
 
-read-part-requires : tie.Need-read-part-requires
+read-part-requires : tie.Need-read_part-requires
 read-part-requires c κs =
-    rw c.before.whole_part.ensures (whole-readable _ _ _ _ c.before.before.before.before.before.requires)
+    rw c.whole_part-part.ensures (whole-readable _ _ _ _ c.requires)
 
-same_length : tie.Need-same-length
+same_length : tie.Need-shape_of-out
 same_length c = search rules
 
 returns : tie.Need-returns
 returns c =
-    let s = c.before.before.before.before.before.before.before.before in whole-done _ _ _ _ _ s.requires
-    (rw c.before.before.before.before.whole_part.ensures at c.before.before.read-part.ensures)
+    let s = c in whole-done _ _ _ _ _ s.requires
+    (rw c.whole_part-part.ensures at c.read_part.ensures)
 
 pub read_planes_spec : {M : Type 1} → statement M
 read_planes_spec = tie.close (tie.spec whole-part-requires read-part-requires same_length returns)

@@ -11,10 +11,10 @@ use Rattle.moves.proofs.Pieces.{movable}
 use Rattle.moves.proofs.runs.run_from.Statement.{statement}
 use Rattle.moves.proofs.runs.run_from.Tie as tie
 
-sample-place-requires : tie.Need-sample-place-requires
+sample-place-requires : tie.Need-sample_place-at-requires
 sample-place-requires c κs = search rules
 
-rest-of-run-requires : tie.Need-rest-of-run-requires
+rest-of-run-requires : tie.Need-rest_of_run-requires
 rest-of-run-requires c κs = search rules
 
 min-requires : tie.Need-min-requires
@@ -22,27 +22,27 @@ min-requires c κs = search rules
 
 -- the samples stand evenly
 along : (c : tie.After-min) (j : ℕ)
-    → let a = c.before.before.before.args in
+    → let a = c.args in
     let l = a.layout in
     j < c.min.result
     → place l a.b a.r (a.c + j) ≡ place l a.b a.r a.c + j * column_stride l.mode l
 along c j h =
-    let s = c.before.before.before in
+    let s = c in
     let a = s.args in
     let e = c.min.ensures in
-    let g = c.before.rest-of-run.ensures in
+    let g = c.rest_of_run.ensures in
     place-along a.layout a.b a.r a.c j
     (rest_in a.layout a.b a.r a.c j s.requires.0.some-bands (omega arith))
 
 returns : tie.Need-returns
 returns c =
-    let s = c.before.before.before in
+    let s = c in
     let a = s.args in
     let f = s.requires.0 in
     let t = s.requires.1.0 in
     let e = c.min.ensures in
-    let g = c.before.rest-of-run.ensures in
-    let h = c.before.before.sample-place.ensures in
+    let g = c.rest_of_run.ensures in
+    let h = c.sample_place-at.ensures in
     let some : 0 < c.min.result = omega (arith, s.requires.1.1, rest-pos a.layout f a.b a.r a.c t) in
     rw h
     (record {

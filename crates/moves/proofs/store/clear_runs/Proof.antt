@@ -22,63 +22,63 @@ cleared first apart t k image = over image (first + k * apart) (replicate t 0)
 run_in : (f a t n k m : ℕ) → k < n → f + (n - 1) * a + t ≤ m → f + k * a + t ≤ m
 run_in f a t n k m h l = omega (arith, mul-le-mul_right {m = k} {n = n - 1} a (omega arith))
 
-abbrev invariant-loop : tie.invariant-loop
+abbrev invariant-loop : tie.invariant-loop-i
 invariant-loop image₀ bands first apart t i₀ image i =
     (i ≤ bands) × (length image ≡ length image₀) × (image ≡ iter i (cleared first apart t) image₀)
 
-abbrev decreases-loop : tie.decreases-loop
+abbrev decreases-loop : tie.decreases-loop-i
 decreases-loop image₀ bands first apart t i₀ image i = bands - i
 
 -- the run at hand lies inside
-inside : (c : tie.In-loop invariant-loop decreases-loop)
-    → let l = c.before.before.before.before.args.layout in
-    l.first + c.before.loop.i * l.apart + l.run_bytes ≤ length c.before.loop.image
+inside : (c : tie.In-loop-i invariant-loop decreases-loop)
+    → let l = c.args.layout in
+    l.first + c.loop-i.i * l.apart + l.run_bytes ≤ length c.loop-i.image
 inside c =
-    let s = c.before.before.before.before in
+    let s = c in
     let l = s.args.layout in
-    run_in l.first l.apart l.run_bytes l.bands c.before.loop.i (length c.before.loop.image)
-    c.loop-test.true (omega (arith, s.requires.1, c.before.loop.invariant.1))
+    run_in l.first l.apart l.run_bytes l.bands c.loop-i.i (length c.loop-i.image)
+    c.loop-i-test.true (omega (arith, s.requires.1, c.loop-i.invariant.1))
 
-cast-bands : tie.Need-overflow-cast-bands invariant-loop decreases-loop
+cast-bands : tie.Need-overflow_cast-bands invariant-loop decreases-loop
 cast-bands c = search rules
 
-loop-holds : tie.Need-loop-init invariant-loop decreases-loop
+loop-holds : tie.Need-loop-i-init invariant-loop decreases-loop
 loop-holds c = (omega arith, refl, iter-none _ _)
 
-mul-clear-bytes : tie.Need-overflow-mul-clear-bytes invariant-loop decreases-loop
+mul-clear-bytes : tie.Need-overflow_mul-i invariant-loop decreases-loop
 mul-clear-bytes c = omega (arith, inside c.before)
 
-add-clear-bytes : tie.Need-overflow-add-clear-bytes invariant-loop decreases-loop
+add-clear-bytes : tie.Need-overflow_add-first invariant-loop decreases-loop
 add-clear-bytes c = omega (arith, inside c.before)
 
-clear-bytes-requires : tie.Need-clear-bytes-requires invariant-loop decreases-loop
+clear-bytes-requires : tie.Need-clear_bytes-requires invariant-loop decreases-loop
 clear-bytes-requires c κs = inside c.before
 
-add-i : tie.Need-overflow-add-i invariant-loop decreases-loop
+add-i : tie.Need-overflow_step-i invariant-loop decreases-loop
 add-i c = omega arith
 
-loop-less : tie.Need-loop-smaller invariant-loop decreases-loop
+loop-less : tie.Need-loop-i-smaller invariant-loop decreases-loop
 loop-less c = omega arith
 
-loop-again : tie.Need-loop-preserved invariant-loop decreases-loop
+loop-again : tie.Need-loop-i-preserved invariant-loop decreases-loop
 loop-again c =
-    let h = c.before.before.before.before.before in
-    let a = h.before.before.before.args in
-    let call = c.before.before.clear-bytes in (
+    let h = c in
+    let a = h.args in
+    let call = c.clear_bytes in (
       omega arith,
-      omega (arith, call.auto, h.loop.invariant.1),
+      omega (arith, call.auto, h.loop-i.invariant.1),
       iter_turn (cleared a.layout.first a.layout.apart
-          a.layout.run_bytes) _ h.loop.i h.loop.invariant.2 call.ensures,
+          a.layout.run_bytes) _ h.loop-i.i h.loop-i.invariant.2 call.ensures,
     )
 
-same_length : tie.Need-same-length invariant-loop decreases-loop
-same_length c = c.before.loop.invariant.1
+same_length : tie.Need-shape_of-image invariant-loop decreases-loop
+same_length c = c.loop-i.invariant.1
 
 returns : tie.Need-returns invariant-loop decreases-loop
 unfolding clear_runs
 returns c =
-    let e : c.before.loop.i ≡ c.before.before.before.before.args.layout.bands = omega arith in
-    rw e at c.before.loop.invariant.2
+    let e : c.loop-i.i ≡ c.args.layout.bands = omega arith in
+    rw e at c.loop-i.invariant.2
 
 pub clear_runs_spec : {M : Type 1} → statement M
 clear_runs_spec =

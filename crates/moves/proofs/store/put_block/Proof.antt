@@ -20,44 +20,44 @@ use Rattle.moves.proofs.Orders.{area_within, area_follows, area-moves}
 use Rattle.moves.proofs.store.put_block.Statement.{statement}
 use Rattle.moves.proofs.store.put_block.Tie as tie
 
-abbrev invariant-loop : tie.invariant-loop
+abbrev invariant-loop : tie.invariant-loop-k
 invariant-loop image₀ layout dat rows columns order sides area₀ k₀ k-end image area k =
     (k ≤ k-end) × Puts (image_target layout (data_at layout dat)) (AreasBefore order k) image₀ image
     × (k < area_count order → area ≡ area_of order k)
 
-abbrev decreases-loop : tie.decreases-loop
+abbrev decreases-loop : tie.decreases-loop-k
 decreases-loop image₀ layout dat rows columns order sides area₀ k₀ k-end image area k = k-end - k
 
 -- before the loop, in a turn, and the function's start
-abbrev numbers : tie.In-loop invariant-loop decreases-loop → tie.After-both-sides invariant-loop decreases-loop
+abbrev numbers : tie.In-loop-k invariant-loop decreases-loop → tie.After-both_sides-sides invariant-loop decreases-loop
 numbers c = c.before.before.before.before
 
 -- the area of a turn
-in_turn : (c : tie.In-loop invariant-loop decreases-loop)
-    → c.before.loop.k < area_count (numbers c).before.before.choose.result
-in_turn c = omega (arith, c.loop-test.true, c.before.before.areas.ensures)
+in_turn : (c : tie.In-loop-k invariant-loop decreases-loop)
+    → c.loop-k.k < area_count (numbers c).choose-order.result
+in_turn c = omega (arith, c.loop-k-test.true, c.areas-k-end.ensures)
 
-area_is : (c : tie.In-loop invariant-loop decreases-loop)
-    → c.before.loop.area ≡ area_of (numbers c).before.before.choose.result c.before.loop.k
-area_is c = c.before.loop.invariant.2 (in_turn c)
+area_is : (c : tie.In-loop-k invariant-loop decreases-loop)
+    → c.loop-k.area ≡ area_of (numbers c).choose-order.result c.loop-k.k
+area_is c = c.loop-k.invariant.2 (in_turn c)
 
-abbrev start : tie.After-both-sides invariant-loop decreases-loop → tie.Start invariant-loop decreases-loop
+abbrev start : tie.After-both_sides-sides invariant-loop decreases-loop → tie.Start invariant-loop decreases-loop
 start c = c.before.before.before.before.before.before
 
 in_dat : (s : tie.Start invariant-loop decreases-loop) → length s.args.dat.now < 2 ^ 64
 in_dat s = omega arith
 
-cast-choose : tie.Need-overflow-cast-choose invariant-loop decreases-loop
+cast-choose : tie.Need-overflow_cast-layout invariant-loop decreases-loop
 cast-choose c = search rules
 
-choose-requires : tie.Need-choose-requires invariant-loop decreases-loop
+choose-requires : tie.Need-choose-order-requires invariant-loop decreases-loop
 choose-requires c κs =
-    let f = c.before.before.before.requires.accepted in (f, (f.some-bands, f.some-rows, f.some-columns))
+    let f = c.requires.accepted in (f, (f.some-bands, f.some-rows, f.some-columns))
 
-whole-part-requires : tie.Need-whole-part-requires invariant-loop decreases-loop
+whole-part-requires : tie.Need-whole_part-requires invariant-loop decreases-loop
 whole-part-requires c κs = search rules
 
-both-sides-requires : tie.Need-both-sides-requires invariant-loop decreases-loop
+both-sides-requires : tie.Need-both_sides-sides-requires invariant-loop decreases-loop
 both-sides-requires c κs =
     let s = c.before.before.before.before.before in
     let f = s.requires.accepted in
@@ -65,67 +65,67 @@ both-sides-requires c κs =
     rw c.whole_part.ensures
     (f, (record { in_b = f.some-bands; in_r = f.some-rows; in_c = f.some-columns }, fit))
 
-first-area-requires : tie.Need-first-area-requires invariant-loop decreases-loop
+first-area-requires : tie.Need-first_area-area-requires invariant-loop decreases-loop
 first-area-requires c κs =
     let f = (start c).requires.accepted in
-    let chosen = c.before.before.choose.ensures in
+    let chosen = c.choose-order.ensures in
     (omega (arith, f.some-rows, chosen.rows_are), omega (arith, f.some-columns, chosen.columns_are))
 
-areas-requires : tie.Need-areas-requires invariant-loop decreases-loop
+areas-requires : tie.Need-areas-k-end-requires invariant-loop decreases-loop
 areas-requires c κs =
-    let f = (start c.before).pre.accepted in
-    areas_fit c.before.before.before.choose.ensures (data_fits _ f).samples f.some-bands
+    let f = (start c.before).requires.accepted in
+    areas_fit c.choose-order.ensures (data_fits _ f).samples f.some-bands
 
-loop-holds : tie.Need-loop-init invariant-loop decreases-loop
+loop-holds : tie.Need-loop-k-init invariant-loop decreases-loop
 loop-holds c =
-    (omega arith, no_area _ c.before.before.before.before.choose.result _, λ h. c.before.first-area.ensures)
+    (omega arith, no_area _ c.choose-order.result _, λ h. c.first_area-area.ensures)
 
-store-area-requires : tie.Need-store-area-requires invariant-loop decreases-loop
+store-area-requires : tie.Need-store_area-requires invariant-loop decreases-loop
 store-area-requires c κs =
     let turn = c.before in
     let n = numbers turn in
     let s = start n in
     let l = s.args.layout in
-    let chosen = n.before.before.choose.ensures in
-    let whole = ap (λ (x : Part). sides_of l x l.rows l.columns) n.before.whole_part.ensures in
-    let w = stays-writable s.pre turn.before.loop.invariant.1.size in
-    let fits : l.bands < 2 ^ 64 = omega (arith, (strides_fit l s.pre.accepted).bands-le) in
+    let chosen = n.choose-order.ensures in
+    let whole = ap (λ (x : Part). sides_of l x l.rows l.columns) n.whole_part.ensures in
+    let w = stays-writable s.requires turn.loop-k.invariant.1.size in
+    let fits : l.bands < 2 ^ 64 = omega (arith, (strides_fit l s.requires.accepted).bands-le) in
     let moves = area-moves chosen _ (in_turn turn) (area_is turn) fits in
-    (n.both-sides.ensures ∙ whole, (w, moves))
+    (n.both_sides-sides.ensures ∙ whole, (w, moves))
 
-next-area-requires : tie.Need-next-area-requires invariant-loop decreases-loop
+next-area-requires : tie.Need-next_area-area-requires invariant-loop decreases-loop
 next-area-requires c κs =
     let turn = c.before.before.before.before in
-    area_within (numbers turn).before.before.choose.ensures _ (in_turn turn) (area_is turn)
+    area_within (numbers turn).choose-order.ensures _ (in_turn turn) (area_is turn)
 
-add-k : tie.Need-overflow-add-k invariant-loop decreases-loop
+add-k : tie.Need-overflow_step-k invariant-loop decreases-loop
 add-k c = omega arith
 
-loop-less : tie.Need-loop-smaller invariant-loop decreases-loop
+loop-less : tie.Need-loop-k-smaller invariant-loop decreases-loop
 loop-less c = omega arith
 
-loop-again : tie.Need-loop-preserved invariant-loop decreases-loop
+loop-again : tie.Need-loop-k-preserved invariant-loop decreases-loop
 loop-again c =
     let turn = c.before.before.before.before.before in
-    let chosen = (numbers turn).before.before.choose.ensures in
-    let put = c.before.before.before.store-area.ensures in
-    let puts = area_turn _ chosen _ (area_is turn) turn.before.loop.invariant.1 put in
-    let follows = area_follows chosen _ (in_turn turn) (area_is turn) c.next-area.ensures in
-    (omega (arith, turn.loop-test.true), puts, follows)
+    let chosen = (numbers turn).choose-order.ensures in
+    let put = c.store_area.ensures in
+    let puts = area_turn _ chosen _ (area_is turn) turn.loop-k.invariant.1 put in
+    let follows = area_follows chosen _ (in_turn turn) (area_is turn) c.next_area-area.ensures in
+    (omega (arith, turn.loop-k-test.true), puts, follows)
 
-same_length : tie.Need-same-length invariant-loop decreases-loop
-same_length c = c.before.loop.invariant.1.size
+same_length : tie.Need-shape_of-image invariant-loop decreases-loop
+same_length c = c.loop-k.invariant.1.size
 
 returns : tie.Need-returns invariant-loop decreases-loop
 unfolding put_block
 returns c =
     let n = c.before.before.before.before in
     let w = (start n).requires in
-    let e : c.before.loop.k ≡ area_count n.before.before.choose.result
-    = omega (arith, c.before.before.areas.ensures) in
-    let bytes = n.before.before.before.before.before.slice-known in
-    let all = areas_done _ n.before.before.choose.ensures c.before.loop.k e in
-    put-done _ w.accepted _ (λ i. (bytes.given i).fits) w.image_holds c.before.loop.invariant.1 all
+    let e : c.loop-k.k ≡ area_count n.choose-order.result
+    = omega (arith, c.areas-k-end.ensures) in
+    let bytes = n.slice_known-1 in
+    let all = areas_done _ n.choose-order.ensures c.loop-k.k e in
+    put-done _ w.accepted _ (λ i. (bytes.given i).fits) w.image_holds c.loop-k.invariant.1 all
 
 pub put_block_spec : {M : Type 1} → statement M
 put_block_spec =

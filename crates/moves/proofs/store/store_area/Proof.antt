@@ -12,62 +12,62 @@ use Rattle.moves.proofs.Orders.{piece_starts, piece_inside, piece_way}
 use Rattle.moves.proofs.store.store_area.Statement.{statement}
 use Rattle.moves.proofs.store.store_area.Tie as tie
 
-abbrev invariant-loop : tie.invariant-loop
+abbrev invariant-loop : tie.invariant-loop-p
 invariant-loop image₀ layout sides order area dat p-end p₀ image p =
     (p ≤ p-end) × Puts (image_target layout (data_at layout dat)) (PartsBefore order area p) image₀ image
 
-abbrev decreases-loop : tie.decreases-loop
+abbrev decreases-loop : tie.decreases-loop-p
 decreases-loop image₀ layout sides order area dat p-end p₀ image p = p-end - p
 
-loop-holds : tie.Need-loop-init invariant-loop decreases-loop
+loop-holds : tie.Need-loop-p-init invariant-loop decreases-loop
 loop-holds c =
-    let s = c.before.before in
+    let s = c in
     (omega arith, no-parts _ s.args.order s.args.area _)
 
 -- the function's start, and the part of the bands of a turn
-abbrev start : tie.In-loop invariant-loop decreases-loop → tie.Start invariant-loop decreases-loop
+abbrev start : tie.In-loop-p invariant-loop decreases-loop → tie.Start invariant-loop decreases-loop
 start c = c.before.before.before.before
 
-in_turn : (c : tie.In-loop invariant-loop decreases-loop) → c.before.loop.p < (start c).args.order.bands.parts
-in_turn c = c.loop-test.true
+in_turn : (c : tie.In-loop-p invariant-loop decreases-loop) → c.loop-p.p < (start c).args.order.bands.parts
+in_turn c = c.loop-p-test.true
 
 piece-requires : tie.Need-piece-requires invariant-loop decreases-loop
-piece-requires c κs = piece_starts (start c.before).pre.1.1 _ (in_turn c.before)
+piece-requires c κs = piece_starts (start c.before).requires.1.1 _ (in_turn c.before)
 
-store-piece-requires : tie.Need-store-piece-requires invariant-loop decreases-loop
+store-piece-requires : tie.Need-store_piece-requires invariant-loop decreases-loop
 store-piece-requires c κs =
     let turn = c.before.before in
     let s = start turn in
-    let moves = s.pre.1.1 in
+    let moves = s.requires.1.1 in
     let e = c.piece.ensures in
-    let w = stays-writable s.pre.1.0 turn.before.loop.invariant.1.size in
-    (s.pre.0, (w, (piece_inside moves _ (in_turn turn) e, piece_way moves _ (in_turn turn) e)))
+    let w = stays-writable s.requires.1.0 turn.loop-p.invariant.1.size in
+    (s.requires.0, (w, (piece_inside moves _ (in_turn turn) e, piece_way moves _ (in_turn turn) e)))
 
-add-p : tie.Need-overflow-add-p invariant-loop decreases-loop
+add-p : tie.Need-overflow_step-p invariant-loop decreases-loop
 add-p c =
     let turn = c.before.before.before.before.before in
-    record { fits = turn-fits {n = (start turn).args.order.bands.parts} {p = turn.before.loop.p} (in_turn turn) (start turn).requires.1.1.parts-fit }
+    record { fits = turn-fits {n = (start turn).args.order.bands.parts} {p = turn.loop-p.p} (in_turn turn) (start turn).requires.1.1.parts-fit }
 
-loop-less : tie.Need-loop-smaller invariant-loop decreases-loop
+loop-less : tie.Need-loop-p-smaller invariant-loop decreases-loop
 loop-less c =
     let turn = c.before.before.before.before.before in
-    turn_less {n = (start turn).args.order.bands.parts} {p = turn.before.loop.p} (in_turn turn)
+    turn_less {n = (start turn).args.order.bands.parts} {p = turn.loop-p.p} (in_turn turn)
 
-loop-again : tie.Need-loop-preserved invariant-loop decreases-loop
+loop-again : tie.Need-loop-p-preserved invariant-loop decreases-loop
 loop-again c =
     let turn = c.before.before.before.before.before in
     let moves = (start turn).requires.1.1 in
-    let piece = c.before.before.before in
-    let read = c.before.before.store-piece.ensures in
-    (turn-le {n = (start turn).args.order.bands.parts} {p = turn.before.loop.p} (in_turn turn), parts-turn _ moves _ piece.piece.ensures turn.before.loop.invariant.1 read)
+    let piece = c in
+    let read = c.store_piece.ensures in
+    (turn-le {n = (start turn).args.order.bands.parts} {p = turn.loop-p.p} (in_turn turn), parts-turn _ moves _ piece.piece.ensures turn.loop-p.invariant.1 read)
 
-same_length : tie.Need-same-length invariant-loop decreases-loop
-same_length c = c.before.loop.invariant.1.size
+same_length : tie.Need-shape_of-image invariant-loop decreases-loop
+same_length c = c.loop-p.invariant.1.size
 
 returns : tie.Need-returns invariant-loop decreases-loop
 returns c =
-    let s = c.before.before.before.before in
-    parts-done _ s.requires.1.1 _ (omega (arith, c.loop-test.false)) c.before.loop.invariant.1
+    let s = c in
+    parts-done _ s.requires.1.1 _ (omega (arith, c.loop-p-test.false)) c.loop-p.invariant.1
 
 pub store_area_spec : {M : Type 1} → statement M
 store_area_spec =

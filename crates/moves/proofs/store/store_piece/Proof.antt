@@ -21,7 +21,7 @@ placed : (s : tie.Start)
     PlacedBlock a.layout a.dat.now a.image.now a.sides.image a.sides.planes a.piece
 placed s =
     let p = s.requires in
-    placed-block p.1.0 (ap (λ (x : Sides). x.image) p.0) (ap (λ (x : Sides). x.planes) p.0) p.1.1.0
+    placed-block p.1.0 (ap (λ (x : Sides). x.image) p.0) (ap (λ (x : Sides). x.planes-1) p.0) p.1.1.0
 
 -- what the way of the arm asks
 way-fits : (s : tie.Start) (w : Way) → s.args.way ≡ w
@@ -32,118 +32,118 @@ first-band : (s : tie.Start) → s.args.piece.bands.from < s.args.layout.bands
 first-band s = omega (arith, s.requires.1.1.0.in_bands)
 
 -- where the arms part
-abbrev start : tie.After-at → tie.Start
+abbrev start : tie.After-at-from → tie.Start
 start c = c.before.before.before.before.before
 
-at-requires : tie.Need-at-requires
+at-requires : tie.Need-at-from-requires
 at-requires c κs = to_fits (placed c.before.before.before.before) (omega arith)
 
-enum_told : tie.Need-enum-told
+enum_told : tie.Need-enum_told-1
 enum_told c = search rules
 
-at-requires-2 : tie.Need-at-requires-2
+at-requires-2 : tie.Need-at-at-requires
 at-requires-2 c κs =
     let s = start c.before.before in
-    at-fits (placed s) (way-fits s Rows c.enum_told.given.1).0 _ (first-band s)
+    at-fits (placed s) (way-fits s Rows c.in-Rows.is).0 _ (first-band s)
 
-cast-write-rows : tie.Need-overflow-cast-write-rows
+cast-write-rows : tie.Need-overflow_cast-layout
 cast-write-rows c = search rules
 
-write-rows-requires : tie.Need-write-rows-requires
+write-rows-requires : tie.Need-write_rows-requires
 write-rows-requires c κs =
     let at = c.before.before in
     let from = at.before.before.before in
     let s = start from in
-    let w = way-fits s Rows at.before.enum_told.given.1 in
-    let m = rows_move (placed s) w.0 _ (first-band s) at.at2.ensures in (
+    let w = way-fits s Rows at.in-Rows.is in
+    let m = rows_move (placed s) w.0 _ (first-band s) at.at-at.ensures in (
       (m.bits_le, m.bytes_le),
       (
         m.movable,
         (
-          (s.pre.1.1.0.in_rows.some, rows-room (placed s) from.at.ensures),
-          rows_fit s.pre.1.0 (placed s) s.pre.1.1.0 w.0 at.at2.ensures from.at.ensures,
+          (s.requires.1.1.0.in_rows.some, rows-room (placed s) from.at-from.ensures),
+          rows_fit s.requires.1.0 (placed s) s.requires.1.1.0 w.0 at.at-at.ensures from.at-from.ensures,
         ),
       ),
     )
 
-enum-told-2 : tie.Need-enum-told-2
+enum-told-2 : tie.Need-enum_told-in-Pixels
 enum-told-2 c = search rules
 
-at-requires-3 : tie.Need-at-requires-3
+at-requires-3 : tie.Need-at-at-requires-in-Pixels
 at-requires-3 c κs =
     let s = start c.before.before in
-    at-fits (placed s) (way-fits s Pixels c.enum-told2.given.1).0 _ (first-band s)
+    at-fits (placed s) (way-fits s Pixels c.in-Pixels.is).0 _ (first-band s)
 
-gather-rows-requires : tie.Need-gather-rows-requires
+gather-rows-requires : tie.Need-gather_rows-requires
 gather-rows-requires c κs =
     let at = c.before.before in
     let from = at.before.before.before in
     let s = start from in
-    let w = way-fits s Pixels at.before.enum-told2.given.1 in
-    let i = s.pre.1.1.0.in_bands in
+    let w = way-fits s Pixels at.in-Pixels.is in
+    let i = s.requires.1.1.0.in_bands in
     let n : ℕ = s.args.piece.bands.count in (
-      ((rows_move (placed s) w.0 _ (first-band s) at.at3.ensures).bytes_le, i.some),
+      ((rows_move (placed s) w.0 _ (first-band s) at.at-at-in-Pixels.ensures).bytes_le, i.some),
       (
-        omega (arith, bands-room (placed s) from.at.ensures),
+        omega (arith, bands-room (placed s) from.at-from.ensures),
         omega (
           arith,
-          pixels-end (placed s) w.0 w.2 w.3 _ (n - 1) (omega (arith, i)) at.at3.ensures,
+          pixels-end (placed s) w.0 w.2 w.3 _ (n - 1) (omega (arith, i)) at.at-at-in-Pixels.ensures,
           last_row n s.args.sides.planes.column i.some,
         ),
       ),
     )
 
-enum-told-3 : tie.Need-enum-told-3
+enum-told-3 : tie.Need-enum_told-in-Runs
 enum-told-3 c = search rules
 
-put-row-requires : tie.Need-put-row-requires
+put-row-requires : tie.Need-put_row-requires
 put-row-requires c κs =
     let from = c.before.before.before in
     let s = start from in
-    let i = s.pre.1.1.0 in (
-      s.pre.1.0,
+    let i = s.requires.1.1.0 in (
+      s.requires.1.0,
       (
         record { in_b = first-band s; in_r = omega (arith, i.in_rows); in_c = omega (arith, i.in_columns) },
-        (i.in_columns.ends, index_is s.args.layout _ _ _ (placed s).planes_are from.at.ensures),
+        (i.in_columns.ends, index_is s.args.layout _ _ _ (placed s).planes_are from.at-from.ensures),
       ),
     )
 
-same_length : tie.Need-same-length
+same_length : tie.Need-shape_of-image-in-Rows
 same_length c = search rules
 
-returns : tie.Need-returns
+returns : tie.Need-returns-in-Rows
 returns c =
     let at = c.before.before.before.before.before in
     let from = at.before.before.before in
     let s = start from in
-    let w = way-fits s Rows at.before.enum_told.given.1 in
-    rows-put s.pre.1.0 (placed s) s.pre.1.1.0 w.0 at.at2.ensures from.at.ensures w.1
-    c.before.before.write-rows.ensures
+    let w = way-fits s Rows at.in-Rows.is in
+    rows-put s.requires.1.0 (placed s) s.requires.1.1.0 w.0 at.at-at.ensures from.at-from.ensures w.1
+    c.write_rows.ensures
 
-same-length-2 : tie.Need-same-length-2
+same-length-2 : tie.Need-shape_of-image-in-Pixels
 same-length-2 c = search rules
 
-returns-2 : tie.Need-returns-2
+returns-2 : tie.Need-returns-in-Pixels
 returns-2 c =
     let at = c.before.before.before.before.before in
     let from = at.before.before.before in
     let s = start from in
-    let w = way-fits s Pixels at.before.enum-told2.given.1 in
-    let known = from.before.before.before in
-    pixels-put s.pre.1.0 (placed s) s.pre.1.1.0 w.0 at.at3.ensures from.at.ensures
-    (λ i. (known.shared-slice-known.given i).fits) (λ i. (known.before.slice-known.given i).fits) w.1 w.2
+    let w = way-fits s Pixels at.in-Pixels.is in
+    let known = from in
+    pixels-put s.requires.1.0 (placed s) s.requires.1.1.0 w.0 at.at-at-in-Pixels.ensures from.at-from.ensures
+    (λ i. (known.shared_slice_known-1.given i).fits) (λ i. (known.slice_known-1.given i).fits) w.1 w.2
     w.3
-    c.before.before.gather-rows.ensures
+    c.gather_rows.ensures
 
-same-length-3 : tie.Need-same-length-3
+same-length-3 : tie.Need-shape_of-image-in-Runs
 same-length-3 c = search rules
 
-returns-3 : tie.Need-returns-3
+returns-3 : tie.Need-returns-in-Runs
 returns-3 c =
     let told = c.before.before.before.before in
     let s = start told.before.before in
-    let w = way-fits s Runs told.enum-told3.given.1 in
-    puts_less _ c.before.before.put-row.ensures
+    let w = way-fits s Runs told.in-Runs.is in
+    puts_less _ c.put_row.ensures
     (λ b r c a g. (omega (arith, g.in_b, w.1), omega (arith, g.in_r, w.0), g.in_c.low, g.in_c.high))
 
 pub store_piece_spec : {M : Type 1} → statement M

@@ -7,24 +7,24 @@ use Rattle.fields.specs.Named.{value_of}
 use Rattle.fields.proofs.named.ImageCompression.from_bytes.Statement.{statement}
 use Rattle.fields.proofs.named.ImageCompression.from_bytes.Tie as tie
 
-returns : tie.Need-returns
+returns : tie.Need-returns-then-same_bytes
 unfolding value_of pick
-returns c = simp (sym c.before.same_bytes.ensures ∙ c.if1.true)
+returns c = simp (sym c.same_bytes.ensures ∙ c.if-same_bytes.true)
 
-returns-2 : tie.Need-returns-2
+returns-2 : tie.Need-returns-then-same_bytes-2
 unfolding value_of pick
 returns-2 c =
     simp (
-      sym c.before.before.before.before.same_bytes.ensures ∙ c.before.before.before.if1.false,
-      sym c.before.same-bytes2.ensures ∙ c.if2.true,
+      sym c.same_bytes.ensures ∙ c.if-same_bytes.false,
+      sym c.same_bytes-2.ensures ∙ c.if-same_bytes-2.true,
     )
 
-returns-3 : tie.Need-returns-3
+returns-3 : tie.Need-returns
 unfolding value_of pick
 returns-3 c =
     simp (
-      sym c.before.before.before.before.same_bytes.ensures ∙ c.before.before.before.if1.false,
-      sym c.before.same-bytes2.ensures ∙ c.if2.false,
+      sym c.same_bytes.ensures ∙ c.if-same_bytes.false,
+      sym c.same_bytes-2.ensures ∙ c.if-same_bytes-2.false,
     )
 
 pub from_bytes_spec : {M : Type 1} → statement M

@@ -7,23 +7,23 @@ use Rattle.fields.proofs.Values.{named_by}
 use Rattle.fields.proofs.named.ImageCompression.is_named.Statement.{statement}
 use Rattle.fields.proofs.named.ImageCompression.is_named.Tie as tie
 
-from-bytes-requires : tie.Need-from-bytes-requires
+from-bytes-requires : tie.Need-from_bytes-requires
 from-bytes-requires c κs = search rules
 
-to-bytes-requires : tie.Need-to-bytes-requires
+to-bytes-requires : tie.Need-to_bytes-text-requires
 to-bytes-requires c κs = search rules
 
-slice-aggregate-same-bytes : tie.Need-slice-aggregate-same-bytes
+slice-aggregate-same-bytes : tie.Need-slice_bounds-same_bytes-end
 slice-aggregate-same-bytes c = search rules
 
-same-bytes-requires : tie.Need-same-bytes-requires
+same-bytes-requires : tie.Need-same_bytes-requires
 same-bytes-requires c κs = search rules
 
 returns : tie.Need-returns
 returns c =
-    let text = c.before.before in
-    let xs = text.before.before.before.args.bytes.now in
-    c.same_bytes.ensures ∙ ap (same_bytes xs) (text.to-bytes.ensures ∙ ap ic_text text.before.from_bytes.ensures) ∙ named_by ic_text xs _ _
+    let text = c in
+    let xs = text.args.bytes.now in
+    c.same_bytes.ensures ∙ ap (same_bytes xs) (text.to_bytes-text.ensures ∙ ap ic_text text.from_bytes.ensures) ∙ named_by ic_text xs _ _
 
 pub is_named_spec : {M : Type 1} → statement M
 is_named_spec =

@@ -13,9 +13,9 @@ slice-aggregate-same-bytes c = search rules
 same-bytes-requires : tie.Need-same-bytes-requires
 same-bytes-requires c κs = search rules
 
-returns : tie.Need-returns
+returns : tie.Need-returns-then-same_bytes
 unfolding value_of pick
-returns c = simp (sym c.before.same_bytes.ensures ∙ c.if1.true)
+returns c = simp (sym c.same_bytes.ensures ∙ c.if-same_bytes.true)
 
 slice-aggregate-same-bytes-2 : tie.Need-slice-aggregate-same-bytes-2
 slice-aggregate-same-bytes-2 c = search rules
@@ -23,20 +23,20 @@ slice-aggregate-same-bytes-2 c = search rules
 same-bytes-requires-2 : tie.Need-same-bytes-requires-2
 same-bytes-requires-2 c κs = search rules
 
-returns-2 : tie.Need-returns-2
+returns-2 : tie.Need-returns-then-same_bytes-2
 unfolding value_of pick
 returns-2 c =
     simp (
-      sym c.before.before.before.before.same_bytes.ensures ∙ c.before.before.before.if1.false,
-      sym c.before.same-bytes2.ensures ∙ c.if2.true,
+      sym c.same_bytes.ensures ∙ c.if-same_bytes.false,
+      sym c.same_bytes-2.ensures ∙ c.if-same_bytes-2.true,
     )
 
-returns-3 : tie.Need-returns-3
+returns-3 : tie.Need-returns
 unfolding value_of pick
 returns-3 c =
     simp (
-      sym c.before.before.before.before.same_bytes.ensures ∙ c.before.before.before.if1.false,
-      sym c.before.same-bytes2.ensures ∙ c.if2.false,
+      sym c.same_bytes.ensures ∙ c.if-same_bytes.false,
+      sym c.same_bytes-2.ensures ∙ c.if-same_bytes-2.false,
     )
 
 pub from_bytes_spec : {M : Type 1} → statement M

@@ -7,57 +7,57 @@ use Rattle.fields.specs.Named.{value_of}
 use Rattle.fields.proofs.named.PixelValueType.from_bytes.Statement.{statement}
 use Rattle.fields.proofs.named.PixelValueType.from_bytes.Tie as tie
 
-returns : tie.Need-returns
+returns : tie.Need-returns-then-same_bytes
 unfolding value_of pick
-returns c = simp (sym c.before.same_bytes.ensures ∙ c.if1.true)
+returns c = simp (sym c.same_bytes.ensures ∙ c.if-same_bytes.true)
 
-returns-2 : tie.Need-returns-2
+returns-2 : tie.Need-returns-then-same_bytes-2
 unfolding value_of pick
 returns-2 c =
     simp (
-      sym c.before.before.before.before.same_bytes.ensures ∙ c.before.before.before.if1.false,
-      sym c.before.same-bytes2.ensures ∙ c.if2.true,
+      sym c.same_bytes.ensures ∙ c.if-same_bytes.false,
+      sym c.same_bytes-2.ensures ∙ c.if-same_bytes-2.true,
     )
 
-returns-3 : tie.Need-returns-3
+returns-3 : tie.Need-returns-then-same_bytes-3
 unfolding value_of pick
 returns-3 c =
     simp (
-      sym c.before.before.before.before.before.before.before.same_bytes.ensures ∙ c.before.before.before.before.before.before.if1.false,
-      sym c.before.before.before.before.same-bytes2.ensures ∙ c.before.before.before.if2.false,
-      sym c.before.same-bytes3.ensures ∙ c.if3.true,
+      sym c.same_bytes.ensures ∙ c.if-same_bytes.false,
+      sym c.same_bytes-2.ensures ∙ c.if-same_bytes-2.false,
+      sym c.same_bytes-3.ensures ∙ c.if-same_bytes-3.true,
     )
 
-returns-4 : tie.Need-returns-4
+returns-4 : tie.Need-returns-then-same_bytes-4
 unfolding value_of pick
 returns-4 c =
     simp (
-      sym c.before.before.before.before.before.before.before.before.before.before.same_bytes.ensures ∙ c.before.before.before.before.before.before.before.before.before.if1.false,
-      sym c.before.before.before.before.before.before.before.same-bytes2.ensures ∙ c.before.before.before.before.before.before.if2.false,
-      sym c.before.before.before.before.same-bytes3.ensures ∙ c.before.before.before.if3.false,
-      sym c.before.same-bytes4.ensures ∙ c.if4.true,
+      sym c.same_bytes.ensures ∙ c.if-same_bytes.false,
+      sym c.same_bytes-2.ensures ∙ c.if-same_bytes-2.false,
+      sym c.same_bytes-3.ensures ∙ c.if-same_bytes-3.false,
+      sym c.same_bytes-4.ensures ∙ c.if-same_bytes-4.true,
     )
 
-returns-5 : tie.Need-returns-5
+returns-5 : tie.Need-returns-then-same_bytes-5
 unfolding value_of pick
 returns-5 c =
     simp (
-      sym c.before.before.before.before.before.before.before.before.before.before.before.before.before.same_bytes.ensures ∙ c.before.before.before.before.before.before.before.before.before.before.before.before.if1.false,
-      sym c.before.before.before.before.before.before.before.before.before.before.same-bytes2.ensures ∙ c.before.before.before.before.before.before.before.before.before.if2.false,
-      sym c.before.before.before.before.before.before.before.same-bytes3.ensures ∙ c.before.before.before.before.before.before.if3.false,
-      sym c.before.before.before.before.same-bytes4.ensures ∙ c.before.before.before.if4.false,
-      sym c.before.same-bytes5.ensures ∙ c.if5.true,
+      sym c.same_bytes.ensures ∙ c.if-same_bytes.false,
+      sym c.same_bytes-2.ensures ∙ c.if-same_bytes-2.false,
+      sym c.same_bytes-3.ensures ∙ c.if-same_bytes-3.false,
+      sym c.same_bytes-4.ensures ∙ c.if-same_bytes-4.false,
+      sym c.same_bytes-5.ensures ∙ c.if-same_bytes-5.true,
     )
 
-returns-6 : tie.Need-returns-6
+returns-6 : tie.Need-returns
 unfolding value_of pick
 returns-6 c =
     simp (
-      sym c.before.before.before.before.before.before.before.before.before.before.before.before.before.same_bytes.ensures ∙ c.before.before.before.before.before.before.before.before.before.before.before.before.if1.false,
-      sym c.before.before.before.before.before.before.before.before.before.before.same-bytes2.ensures ∙ c.before.before.before.before.before.before.before.before.before.if2.false,
-      sym c.before.before.before.before.before.before.before.same-bytes3.ensures ∙ c.before.before.before.before.before.before.if3.false,
-      sym c.before.before.before.before.same-bytes4.ensures ∙ c.before.before.before.if4.false,
-      sym c.before.same-bytes5.ensures ∙ c.if5.false,
+      sym c.same_bytes.ensures ∙ c.if-same_bytes.false,
+      sym c.same_bytes-2.ensures ∙ c.if-same_bytes-2.false,
+      sym c.same_bytes-3.ensures ∙ c.if-same_bytes-3.false,
+      sym c.same_bytes-4.ensures ∙ c.if-same_bytes-4.false,
+      sym c.same_bytes-5.ensures ∙ c.if-same_bytes-5.false,
     )
 
 pub from_bytes_spec : {M : Type 1} → statement M

@@ -4,10 +4,10 @@ use borrow.Author.Rules.{rules}
 use Rattle.moves.proofs.order.Cut.part.Statement.{statement}
 use Rattle.moves.proofs.order.Cut.part.Tie as tie
 
-mul-from : tie.Need-overflow-mul-from
+mul-from : tie.Need-overflow_mul-from
 mul-from c = search rules
 
-sub-min : tie.Need-overflow-sub-min
+sub-min : tie.Need-overflow_sub-self
 sub-min c = search rules
 
 min-requires : tie.Need-min-requires

@@ -13,7 +13,7 @@ part-requires-2 c κs = search rules
 
 returns : tie.Need-returns
 returns c =
-    rw (c.before.part.ensures, c.part2.ensures) (area_first c.before.before.before.before.args.self)
+    rw (c.part.ensures, c.part-2.ensures) (area_first c.args.self)
 
 pub first_area_spec : {M : Type 1} → statement M
 first_area_spec = tie.close (tie.spec part-requires part-requires-2 returns)
