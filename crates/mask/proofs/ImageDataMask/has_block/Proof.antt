@@ -15,7 +15,7 @@ use Rattle.mask.proofs.ImageDataMask.has_block.Tie as tie
 -- the call is accepted
 zero : (c : tie.Else-number-ne0)
     → let a = c.args in
-    lookup_number a.grid a.table.now a.block_row a.block-col a.band ≡ 0
+    lookup_number a.grid a.table.now a.block_row a.block_col a.band ≡ 0
 zero c = sym c.lookup_number-number.ensures ∙ c.if-number-ne0.false
 
 lookup-number-requires : tie.Need-lookup_number-number-requires

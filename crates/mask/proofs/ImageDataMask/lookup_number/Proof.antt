@@ -14,8 +14,8 @@ use Rattle.mask.proofs.ImageDataMask.lookup_number.Tie as tie
 -- the number past the questions of the table
 rest : (c : tie.Else-number-ne0)
     → let a = c.args in
-    lookup_number a.grid a.table.now a.block_row a.block-col a.band
-    ≡ ask 6 (q6 a.grid a.block_row a.block-col) (ask 8 (q8_lookup a.grid a.band) 0)
+    lookup_number a.grid a.table.now a.block_row a.block_col a.band
+    ≡ ask 6 (q6 a.grid a.block_row a.block_col) (ask 8 (q8_lookup a.grid a.band) 0)
 unfolding parse_number lookup_number
 rest c =
     let a = c.args in

@@ -16,7 +16,7 @@ use Rattle.mask.proofs.ImageDataMask.record_of.Statement.{statement}
 use Rattle.mask.proofs.ImageDataMask.record_of.Tie as tie
 
 -- the accepted lookup
-facts : (c : tie.Start) → let a = c.args in Lookup a.grid a.table.now a.block_row a.block-col a.band
+facts : (c : tie.Start) → let a = c.args in Lookup a.grid a.table.now a.block_row a.block_col a.band
 facts c = lookup-facts _ _ _ _ _ c.requires.0
 
 -- a record that the table has lies inside it
@@ -36,7 +36,7 @@ record_inside g table row column band l ne =
 place_is : (c : tie.After-code_bytes-code)
     → let a = c.args in
     10 + c.code_bytes-code.result + c.lookup_record-record.result * 4
-    ≡ 10 + code_bytes (be_at a.table.now 8 2) + lookup_record a.grid a.block_row a.block-col a.band * 4
+    ≡ 10 + code_bytes (be_at a.table.now 8 2) + lookup_record a.grid a.block_row a.block_col a.band * 4
 place_is c = rw (c.code_bytes-code.ensures, c.read_two.ensures, c.lookup_record-record.ensures)
 
 inside : (c : tie.After-code_bytes-code)

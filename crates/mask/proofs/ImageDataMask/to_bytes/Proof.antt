@@ -14,15 +14,15 @@ use Rattle.mask.proofs.ImageDataMask.to_bytes.Tie as tie
 -- the call is accepted, and what that tells
 zero : (c : tie.Else-number-ne0)
     → let a = c.args in
-    let n = length a.block-offsets.now in
-    let m = length a.pad-pixel-offsets.now in
+    let n = length a.block_offsets.now in
+    let m = length a.pad_pixel_offsets.now in
     mask_write_number a.grid a.self n m (length a.out.now) ≡ 0
 zero c = sym c.write_number-number.ensures ∙ c.if-number-ne0.false
 
 facts : (c : tie.Else-number-ne0)
     → let a = c.args in
-    let n = length a.block-offsets.now in
-    let m = length a.pad-pixel-offsets.now in
+    let n = length a.block_offsets.now in
+    let m = length a.pad_pixel_offsets.now in
     MaskWrite a.grid a.self n m (length a.out.now)
 facts c = mask_write-facts _ _ _ _ _ (zero c)
 
@@ -91,7 +91,7 @@ returns-2 c =
     let lengths = bytes in
     let h = accepted-before bytes in
     let a = h.before.before.before.before.before.args in
-    table-put a.grid a.self a.block-offsets.now a.pad-pixel-offsets.now a.out.now (zero h)
+    table-put a.grid a.self a.block_offsets.now a.pad_pixel_offsets.now a.out.now (zero h)
     lengths.table_bytes-size.ensures bytes.code_bytes-code.ensures lengths.put_lengths.ensures
     code.put_be.ensures blocks.put_offsets.ensures pads.put_offsets-2.ensures
 

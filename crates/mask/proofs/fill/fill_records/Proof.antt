@@ -13,6 +13,7 @@ use Rattle.mask.specs.Mask.{mark_record}
 use Rattle.mask.proofs.Tabulate.{tabulate-none, tabulate-turn}
 use Rattle.mask.proofs.Records.{records-le, filled_lt}
 use Rattle.mask.proofs.fill.fill_records.Statement.{statement}
+use Rattle.mask.proofs.fill.fill_records.Lts.{then-is_marked, else-is_marked}
 use Rattle.mask.proofs.fill.fill_records.Tie as tie
 
 abbrev invariant-loop : tie.invariant-loop-k
@@ -74,9 +75,10 @@ loop-again c =
     let f = mark_record a.grid a.marks.now in
     let next = tabulate-turn f a.out.now l.k (omega (arith, in_table i)) l.invariant.1 l.invariant.2 in
     let t =
-    ⊎_elim (λ w. next 0 c.if-is_marked.out (sym (pick_yes 0 0xFFFF_FFFF (sym e ∙ w.0.taken))) w.1)
-    (λ w. next 0xFFFF_FFFF c.if-is_marked.out (sym (pick_no 0 0xFFFF_FFFF (sym e ∙ w.0.left))) w.1)
-    c.if-is_marked.branch in
+    elim c.if-is_marked.branch [
+      then-is_marked w ↦ next 0 c.if-is_marked.out (sym (pick_yes 0 0xFFFF_FFFF (sym e ∙ w.if-is_marked.true))) w.out-is
+    | else-is_marked w ↦ next 0xFFFF_FFFF c.if-is_marked.out (sym (pick_no 0 0xFFFF_FFFF (sym e ∙ w.if-is_marked.false))) w.out-is
+    ] in
     (omega arith, t.0, t.1)
 
 same_length : tie.Need-shape_of-out invariant-loop decreases-loop

@@ -22,14 +22,14 @@ asked s = bands_of s.args.all s.args.bands.now
 placed : (s : tie.Start)
     → let a = s.args in
     let d = a.sides in
-    Placed a.layout (length a.src.now) d.part-1 (asked s) d.rows d.columns (length a.out.now)
-    d.image d.planes-1 (band_of a.area a.k)
+    Placed a.layout (length a.src.now) d.part (asked s) d.rows d.columns (length a.out.now)
+    d.image d.planes (band_of a.area a.k)
 placed s =
     let p = s.requires in
     record {
       readable = p.1.0;
       image-is = ap (λ (x : Sides). x.image) p.0;
-      planes_are = ap (λ (x : Sides). x.planes-1) p.0;
+      planes_are = ap (λ (x : Sides). x.planes) p.0;
       in-part = p.1.1.0;
     }
 

@@ -23,13 +23,13 @@ placed : (s : tie.Start)
     → let a = s.args in
     let d = a.sides in
     Placed a.layout (length a.src.now) d.part (asked s) d.rows d.columns (length a.out.now)
-    d.image-1 d.planes-1 (bands_of_area a.area (length a.bands.now))
+    d.image d.planes (bands_of_area a.area (length a.bands.now))
 placed s =
     let p = s.requires in
     record {
       readable = p.1.0;
-      image-is = ap (λ (x : Sides). x.image-1) p.0;
-      planes_are = ap (λ (x : Sides). x.planes-1) p.0;
+      image-is = ap (λ (x : Sides). x.image) p.0;
+      planes_are = ap (λ (x : Sides). x.planes) p.0;
       in-part = p.1.1.0;
     }
 

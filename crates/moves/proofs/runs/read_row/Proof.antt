@@ -110,7 +110,7 @@ loop-again c =
     let n = numbers run.before in
     let a = (start n).args in
     let call = c.read_samples in (
-      omega (arith, run.run_from-run.ensures.count-le, run.loop-done-test.taken),
+      omega (arith, run.run_from-run.ensures.count-le, run.loop-done-test.true),
       omega (arith, call.auto, head.loop-done.invariant.1),
       values_run (λ j. sample_at a.layout a.src.now a.b a.r (a.c + j))
           (spaced a.src.now run.run_from-run.result.at n.strides-step.result.column a.layout.nbpp) _ _ _ _ _

@@ -2,7 +2,6 @@
 -- Assumes nothing.
 use borrow.Author.Rules.{rules}
 use mathlib.Core.Path.{◌≡◌, ap, ◌∙◌}
-use mathlib.Core.Logic.{⊎_elim}
 use native.Mathlib.Omega.{arith}
 use lib.ListN.{length}
 use Rattle.common.proofs.Flags.{yes, no}
@@ -10,6 +9,7 @@ use Rattle.layout.proofs.Places.{end-packed}
 use Rattle.moves.specs.Internal.Stores.{put_block, store_by, store_block}
 use Rattle.moves.proofs.StoreBounds.{stays-writable}
 use Rattle.moves.proofs.store.store_block.Statement.{statement}
+use Rattle.moves.proofs.store.store_block.Lts.{then-not-is_byte_multiple, else-not-is_byte_multiple}
 use Rattle.moves.proofs.store.store_block.Tie as tie
 
 -- the image that the samples are put into
@@ -21,17 +21,18 @@ cleared : (c : tie.Joined-not-is_byte_multiple)
 unfolding store_by
 cleared c =
     let a = c.args in
-    ⊎_elim
-    (λ w. (
-      omega (arith, ap length w.5, w.2.kept),
-      rw (no c.is_byte_multiple.ensures w.0.taken) (ap (put_block a.layout a.«data».now) (w.5
-          ∙ w.2.ensures)),
-    ))
-    (λ w. (
-      ap length w.1,
-      rw (yes c.is_byte_multiple.ensures w.0.left) (ap (put_block a.layout a.«data».now) w.1),
-    ))
-    c.if-not-is_byte_multiple.branch
+    elim c.if-not-is_byte_multiple.branch [
+      then-not-is_byte_multiple w ↦ (
+        omega (arith, ap length w.image-is, w.clear_runs.auto),
+        rw (no c.is_byte_multiple.ensures w.if-not-is_byte_multiple.true)
+        (ap (put_block a.layout a.«data».now) (w.image-is ∙ w.clear_runs.ensures)),
+      )
+    | else-not-is_byte_multiple w ↦ (
+        ap length w.image-is,
+        rw (yes c.is_byte_multiple.ensures w.if-not-is_byte_multiple.false)
+        (ap (put_block a.layout a.«data».now) w.image-is),
+      )
+    ]
 
 is-byte-multiple-requires : tie.Need-is_byte_multiple-requires
 is-byte-multiple-requires c κs = search rules

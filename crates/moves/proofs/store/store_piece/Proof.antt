@@ -21,7 +21,7 @@ placed : (s : tie.Start)
     PlacedBlock a.layout a.dat.now a.image.now a.sides.image a.sides.planes a.piece
 placed s =
     let p = s.requires in
-    placed-block p.1.0 (ap (λ (x : Sides). x.image) p.0) (ap (λ (x : Sides). x.planes-1) p.0) p.1.1.0
+    placed-block p.1.0 (ap (λ (x : Sides). x.image) p.0) (ap (λ (x : Sides). x.planes) p.0) p.1.1.0
 
 -- what the way of the arm asks
 way-fits : (s : tie.Start) (w : Way) → s.args.way ≡ w
@@ -43,7 +43,7 @@ enum_told c = search rules
 
 at-requires-2 : tie.Need-at-at-requires
 at-requires-2 c κs =
-    let s = start c.before.before in
+    let s = start c.before in
     at-fits (placed s) (way-fits s Rows c.in-Rows.is).0 _ (first-band s)
 
 cast-write-rows : tie.Need-overflow_cast-layout
@@ -52,7 +52,7 @@ cast-write-rows c = search rules
 write-rows-requires : tie.Need-write_rows-requires
 write-rows-requires c κs =
     let at = c.before.before in
-    let from = at.before.before.before in
+    let from = at.before.before in
     let s = start from in
     let w = way-fits s Rows at.in-Rows.is in
     let m = rows_move (placed s) w.0 _ (first-band s) at.at-at.ensures in (
@@ -71,13 +71,13 @@ enum-told-2 c = search rules
 
 at-requires-3 : tie.Need-at-at-requires-in-Pixels
 at-requires-3 c κs =
-    let s = start c.before.before in
+    let s = start c.before in
     at-fits (placed s) (way-fits s Pixels c.in-Pixels.is).0 _ (first-band s)
 
 gather-rows-requires : tie.Need-gather_rows-requires
 gather-rows-requires c κs =
     let at = c.before.before in
-    let from = at.before.before.before in
+    let from = at.before.before in
     let s = start from in
     let w = way-fits s Pixels at.in-Pixels.is in
     let i = s.requires.1.1.0.in_bands in
@@ -98,7 +98,7 @@ enum-told-3 c = search rules
 
 put-row-requires : tie.Need-put_row-requires
 put-row-requires c κs =
-    let from = c.before.before.before in
+    let from = c.before.before in
     let s = start from in
     let i = s.requires.1.1.0 in (
       s.requires.1.0,
@@ -114,7 +114,7 @@ same_length c = search rules
 returns : tie.Need-returns-in-Rows
 returns c =
     let at = c.before.before.before.before.before in
-    let from = at.before.before.before in
+    let from = at.before.before in
     let s = start from in
     let w = way-fits s Rows at.in-Rows.is in
     rows-put s.requires.1.0 (placed s) s.requires.1.1.0 w.0 at.at-at.ensures from.at-from.ensures w.1
@@ -126,7 +126,7 @@ same-length-2 c = search rules
 returns-2 : tie.Need-returns-in-Pixels
 returns-2 c =
     let at = c.before.before.before.before.before in
-    let from = at.before.before.before in
+    let from = at.before.before in
     let s = start from in
     let w = way-fits s Pixels at.in-Pixels.is in
     let known = from in
@@ -141,7 +141,7 @@ same-length-3 c = search rules
 returns-3 : tie.Need-returns-in-Runs
 returns-3 c =
     let told = c.before.before.before.before in
-    let s = start told.before.before in
+    let s = start told.before in
     let w = way-fits s Runs told.in-Runs.is in
     puts_less _ c.put_row.ensures
     (λ b r c a g. (omega (arith, g.in_b, w.1), omega (arith, g.in_r, w.0), g.in_c.low, g.in_c.high))
