@@ -7,20 +7,14 @@ use Rattle.fields.specs.Named.{value_of}
 use Rattle.fields.proofs.named.mode_from_bytes.Statement.{statement}
 use Rattle.fields.proofs.named.mode_from_bytes.Tie as tie
 
-slice-aggregate-same-bytes : tie.Need-slice-aggregate-same-bytes
-slice-aggregate-same-bytes c = search rules
-
-same-bytes-requires : tie.Need-same-bytes-requires
+same-bytes-requires : tie.Need-same_bytes-requires
 same-bytes-requires c κs = search rules
 
 returns : tie.Need-returns-then-same_bytes
 unfolding value_of pick
 returns c = simp (sym c.same_bytes.ensures ∙ c.if-same_bytes.true)
 
-slice-aggregate-same-bytes-2 : tie.Need-slice-aggregate-same-bytes-2
-slice-aggregate-same-bytes-2 c = search rules
-
-same-bytes-requires-2 : tie.Need-same-bytes-requires-2
+same-bytes-requires-2 : tie.Need-same_bytes-requires-2
 same-bytes-requires-2 c κs = search rules
 
 returns-2 : tie.Need-returns-then-same_bytes-2
@@ -31,10 +25,7 @@ returns-2 c =
       sym c.same_bytes-2.ensures ∙ c.if-same_bytes-2.true,
     )
 
-slice-aggregate-same-bytes-3 : tie.Need-slice-aggregate-same-bytes-3
-slice-aggregate-same-bytes-3 c = search rules
-
-same-bytes-requires-3 : tie.Need-same-bytes-requires-3
+same-bytes-requires-3 : tie.Need-same_bytes-requires-3
 same-bytes-requires-3 c κs = search rules
 
 returns-3 : tie.Need-returns-then-same_bytes-3
@@ -46,10 +37,7 @@ returns-3 c =
       sym c.same_bytes-3.ensures ∙ c.if-same_bytes-3.true,
     )
 
-slice-aggregate-same-bytes-4 : tie.Need-slice-aggregate-same-bytes-4
-slice-aggregate-same-bytes-4 c = search rules
-
-same-bytes-requires-4 : tie.Need-same-bytes-requires-4
+same-bytes-requires-4 : tie.Need-same_bytes-requires-4
 same-bytes-requires-4 c κs = search rules
 
 returns-4 : tie.Need-returns-then-same_bytes-4
@@ -76,16 +64,12 @@ pub mode_from_bytes_spec : {M : Type 1} → statement M
 mode_from_bytes_spec =
     tie.close
     (tie.spec
-    slice-aggregate-same-bytes
-    same-bytes-requires
+        same-bytes-requires
     returns
-    slice-aggregate-same-bytes-2
-    same-bytes-requires-2
+        same-bytes-requires-2
     returns-2
-    slice-aggregate-same-bytes-3
-    same-bytes-requires-3
+        same-bytes-requires-3
     returns-3
-    slice-aggregate-same-bytes-4
-    same-bytes-requires-4
+        same-bytes-requires-4
     returns-4
     returns-5)

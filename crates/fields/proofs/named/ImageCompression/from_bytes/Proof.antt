@@ -30,5 +30,5 @@ returns-3 c =
 pub from_bytes_spec : {M : Type 1} → statement M
 from_bytes_spec =
     tie.close
-    (tie.spec (λ c. search rules) (λ c κs. search rules) returns (λ c. search rules) (λ c κs. search rules) returns-2
+    (tie.spec (λ c κs. search rules) returns (λ c κs. search rules) returns-2
     returns-3)

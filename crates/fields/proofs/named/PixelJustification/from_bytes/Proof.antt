@@ -7,20 +7,14 @@ use Rattle.fields.specs.Named.{value_of}
 use Rattle.fields.proofs.named.PixelJustification.from_bytes.Statement.{statement}
 use Rattle.fields.proofs.named.PixelJustification.from_bytes.Tie as tie
 
-slice-aggregate-same-bytes : tie.Need-slice-aggregate-same-bytes
-slice-aggregate-same-bytes c = search rules
-
-same-bytes-requires : tie.Need-same-bytes-requires
+same-bytes-requires : tie.Need-same_bytes-requires
 same-bytes-requires c κs = search rules
 
 returns : tie.Need-returns-then-same_bytes
 unfolding value_of pick
 returns c = simp (sym c.same_bytes.ensures ∙ c.if-same_bytes.true)
 
-slice-aggregate-same-bytes-2 : tie.Need-slice-aggregate-same-bytes-2
-slice-aggregate-same-bytes-2 c = search rules
-
-same-bytes-requires-2 : tie.Need-same-bytes-requires-2
+same-bytes-requires-2 : tie.Need-same_bytes-requires-2
 same-bytes-requires-2 c κs = search rules
 
 returns-2 : tie.Need-returns-then-same_bytes-2
@@ -43,10 +37,8 @@ pub from_bytes_spec : {M : Type 1} → statement M
 from_bytes_spec =
     tie.close
     (tie.spec
-    slice-aggregate-same-bytes
-    same-bytes-requires
+        same-bytes-requires
     returns
-    slice-aggregate-same-bytes-2
-    same-bytes-requires-2
+        same-bytes-requires-2
     returns-2
     returns-3)

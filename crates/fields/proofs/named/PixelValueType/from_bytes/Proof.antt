@@ -63,6 +63,6 @@ returns-6 c =
 pub from_bytes_spec : {M : Type 1} → statement M
 from_bytes_spec =
     tie.close
-    (tie.spec (λ c. search rules) (λ c κs. search rules) returns (λ c. search rules) (λ c κs. search rules) returns-2
-    (λ c. search rules) (λ c κs. search rules) returns-3 (λ c. search rules) (λ c κs. search rules) returns-4
-    (λ c. search rules) (λ c κs. search rules) returns-5 returns-6)
+    (tie.spec (λ c κs. search rules) returns (λ c κs. search rules) returns-2
+    (λ c κs. search rules) returns-3 (λ c κs. search rules) returns-4
+    (λ c κs. search rules) returns-5 returns-6)
