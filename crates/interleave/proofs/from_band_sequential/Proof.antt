@@ -13,41 +13,41 @@ use Rattle.interleave.proofs.Accepted.{Accepted, accepted}
 use Rattle.interleave.proofs.Answers.{reorder-refused, reorder-accepted}
 
 -- the questions were answered yes
-asked : (c : tie.Else1)
-    → let a = c.before.before.before.before.before.args in
-    Accepted every_band a.nrows a.ncols a.nbands a.bytes-per-pixel (length a.«data».now) (length a.out.now)
-asked c = accepted _ _ _ _ _ _ _ (sym c.before.reorder-number.ensures ∙ c.if1.false)
+asked : (c : tie.Else-number-ne0)
+    → let a = c.args in
+    Accepted every_band a.nrows a.ncols a.nbands a.bytes_per_pixel (length a.«data».now) (length a.out.now)
+asked c = accepted _ _ _ _ _ _ _ (sym c.reorder_number-number.ensures ∙ c.if-number-ne0.false)
 
-slice-aggregate-reorder-number : tie.Need-slice-aggregate-reorder-number
+slice-aggregate-reorder-number : tie.Need-slice_bounds-reorder_number-end
 slice-aggregate-reorder-number c = search rules
 
-reorder-number-requires : tie.Need-reorder-number-requires
+reorder-number-requires : tie.Need-reorder_number-number-requires
 reorder-number-requires c κs = search rules
 
 refused-requires : tie.Need-refused-requires
 refused-requires c κs = search rules
 
-returns : tie.Need-returns
+returns : tie.Need-returns-then-number-ne0
 returns c =
-    let n = c.before.before in
-    let a = n.before.before.before.before.args in
-    reorder-refused S a.to-mode every_band a.nrows a.ncols a.nbands a.bytes-per-pixel a.«data».now a.out.now
-    n.reorder-number.result c.refused.ensures n.reorder-number.ensures c.before.if1.true
+    let n = c in
+    let a = n.args in
+    reorder-refused S a.to_mode every_band a.nrows a.ncols a.nbands a.bytes_per_pixel a.«data».now a.out.now
+    n.reorder_number-number.result c.refused.ensures n.reorder_number-number.ensures c.if-number-ne0.true
 
-from-planes-requires : tie.Need-from-planes-requires
+from-planes-requires : tie.Need-from_planes-requires
 from-planes-requires c κs = search rules
 
-same_length : tie.Need-same-length
+same_length : tie.Need-shape_of-out
 same_length c = search rules
 
-returns-2 : tie.Need-returns-2
+returns-2 : tie.Need-returns
 unfolding band_count pick
 returns-2 c =
     let e = c.before.before.before.before in
-    let n = e.before in
-    let a = n.before.before.before.before.args in
-    reorder-accepted S a.to-mode every_band a.nrows a.ncols a.nbands a.bytes-per-pixel a.«data».now a.out.now n.reorder-number.result _ _
-    n.reorder-number.ensures e.if1.false refl (asked e).full c.before.before.from-planes.ensures
+    let n = e in
+    let a = n.args in
+    reorder-accepted S a.to_mode every_band a.nrows a.ncols a.nbands a.bytes_per_pixel a.«data».now a.out.now n.reorder_number-number.result _ _
+    n.reorder_number-number.ensures e.if-number-ne0.false refl (asked e).full c.from_planes.ensures
 
 pub from_band_sequential_spec : {M : Type 1} → statement M
 from_band_sequential_spec =

@@ -13,49 +13,49 @@ use Rattle.interleave.proofs.fused_bip_to_bsq.Statement.{statement}
 use Rattle.interleave.proofs.fused_bip_to_bsq.Tie as tie
 
 -- the questions were answered yes
-asked : (c : tie.Else1)
-    → let a = c.before.before.before.before.before.args in
-    Accepted (bands_of a.all a.bands.now) a.nrows a.ncols a.nbands a.bytes-per-pixel (length a.«data».now) (length a.out.now)
-asked c = accepted _ _ _ _ _ _ _ (sym c.before.reorder-number.ensures ∙ c.if1.false)
+asked : (c : tie.Else-number-ne0)
+    → let a = c.args in
+    Accepted (bands_of a.all a.bands.now) a.nrows a.ncols a.nbands a.bytes_per_pixel (length a.«data».now) (length a.out.now)
+asked c = accepted _ _ _ _ _ _ _ (sym c.reorder_number-number.ensures ∙ c.if-number-ne0.false)
 
-reorder-number-requires : tie.Need-reorder-number-requires
+reorder-number-requires : tie.Need-reorder_number-number-requires
 reorder-number-requires c κs = search rules
 
 refused-requires : tie.Need-refused-requires
 refused-requires c κs = search rules
 
-returns : tie.Need-returns
+returns : tie.Need-returns-then-number-ne0
 returns c =
-    let n = c.before.before in
-    let a = n.before.before.before.before.args in
-    reorder-refused P S (bands_of a.all a.bands.now) a.nrows a.ncols a.nbands a.bytes-per-pixel a.«data».now a.out.now
-    n.reorder-number.result c.refused.ensures n.reorder-number.ensures c.before.if1.true
+    let n = c in
+    let a = n.args in
+    reorder-refused P S (bands_of a.all a.bands.now) a.nrows a.ncols a.nbands a.bytes_per_pixel a.«data».now a.out.now
+    n.reorder_number-number.result c.refused.ensures n.reorder_number-number.ensures c.if-number-ne0.true
 
-to-planes-requires : tie.Need-to-planes-requires
+to-planes-requires : tie.Need-to_planes-requires
 to-planes-requires c κs = search rules
 
-band-count-requires : tie.Need-band-count-requires
+band-count-requires : tie.Need-band_count-count-requires
 band-count-requires c κs = search rules
 
-output-bytes-requires : tie.Need-output-bytes-requires
+output-bytes-requires : tie.Need-output_bytes-requires
 output-bytes-requires c κs =
     let e = c.before.before.before.before.before in
-    rw c.band-count.ensures (omega (arith, (asked e).room, e.before.before.before.before.before.well-formed))
+    rw c.band_count-count.ensures (omega (arith, (asked e).room, e.before.before.before.before.before.well_formed))
 
-same_length : tie.Need-same-length
+same_length : tie.Need-shape_of-out
 same_length c = search rules
 
-returns-2 : tie.Need-returns-2
+returns-2 : tie.Need-returns
 returns-2 c =
     let b = c.before in
     let g = b.before.before.before in
     let e = g.before.before in
-    let n = e.before in
-    let a = n.before.before.before.before.args in
-    reorder-accepted P S (bands_of a.all a.bands.now) a.nrows a.ncols a.nbands a.bytes-per-pixel a.«data».now a.out.now n.reorder-number.result _ _
-    n.reorder-number.ensures e.if1.false b.band-count.ensures
-    (c.output-bytes.ensures ∙ ap (λ (k : ℕ). k * a.nrows * a.ncols * a.bytes-per-pixel) b.band-count.ensures)
-    g.to-planes.ensures
+    let n = e in
+    let a = n.args in
+    reorder-accepted P S (bands_of a.all a.bands.now) a.nrows a.ncols a.nbands a.bytes_per_pixel a.«data».now a.out.now n.reorder_number-number.result _ _
+    n.reorder_number-number.ensures e.if-number-ne0.false b.band_count-count.ensures
+    (c.output_bytes.ensures ∙ ap (λ (k : ℕ). k * a.nrows * a.ncols * a.bytes_per_pixel) b.band_count-count.ensures)
+    g.to_planes.ensures
 
 pub fused_bip_to_bsq_spec : {M : Type 1} → statement M
 fused_bip_to_bsq_spec =

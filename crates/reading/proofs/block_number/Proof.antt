@@ -16,133 +16,133 @@ use Rattle.reading.proofs.block_number.Statement.{statement}
 use Rattle.reading.proofs.block_number.Tie as tie
 
 -- earlier places of the code
-abbrev past-6 : tie.Else4 → tie.Else3
+abbrev past-6 : tie.Else-image-block_end → tie.Else-not-has_block
 past-6 c = c.before.before
 
-abbrev past-5 : tie.Else3 → tie.Else2
+abbrev past-5 : tie.Else-not-has_block → tie.Else-resolution_level-ne0
 past-5 c = c.before.before
 
-abbrev past_8 : tie.After-product-fits → tie.Else5
+abbrev past_8 : tie.After-product_fits → tie.Else-not-bands_below
 past_8 c = c.before.before.before.before.before
 
 -- what is known past each question
-accepted : (c : tie.Else1) → Accepted c.before.before.before.args.grid
-accepted c = sym c.before.check.ensures ∙ c.if1.false
+accepted : (c : tie.Else-number-ne0) → Accepted c.args.grid
+accepted c = sym c.check-number.ensures ∙ c.if-number-ne0.false
 
-rest : (c : tie.Else1)
-    → let a = c.before.before.before.args in
+rest : (c : tie.Else-number-ne0)
+    → let a = c.args in
     let bs = bands_of a.all a.bands.now in
-    block_number a.grid a.image a.block_row a.block-col a.resolution-level bs a.room
-    ≡ block_questions a.grid a.image a.block_row a.block-col a.resolution-level bs a.room
+    block_number a.grid a.image a.block_row a.block_col a.resolution_level bs a.room
+    ≡ block_questions a.grid a.image a.block_row a.block_col a.resolution_level bs a.room
 unfolding block_number
 rest c = grid-yes _ _ (accepted c)
 
-q5-yes : (c : tie.Else2) → q5 c.before.before.before.before.args.resolution-level ≡ true
-q5-yes c = eq-eqb _ _ c.if2.false
+q5-yes : (c : tie.Else-resolution_level-ne0) → q5 c.args.resolution_level ≡ true
+q5-yes c = eq-eqb _ _ c.if-resolution_level-ne0.false
 
-q6-yes : (c : tie.Else3) → let a = (past-5 c).before.before.before.before.args in q6 a.grid a.block_row a.block-col ≡ true
-q6-yes c = yes c.before.has_block.ensures c.if3.false
+q6-yes : (c : tie.Else-not-has_block) → let a = (past-5 c).args in q6 a.grid a.block_row a.block_col ≡ true
+q6-yes c = yes c.has_block.ensures c.if-not-has_block.false
 
-q7-yes : (c : tie.Else4)
-    → let a = (past-5 (past-6 c)).before.before.before.before.args in q7 a.grid a.image a.block_row a.block-col ≡ true
-q7-yes c = le-leb _ _ (rw c.before.block-end.ensures at c.if4.false)
+q7-yes : (c : tie.Else-image-block_end)
+    → let a = (past-5 (past-6 c)).args in q7 a.grid a.image a.block_row a.block_col ≡ true
+q7-yes c = le-leb _ _ (rw c.block_end.ensures at c.if-image-block_end.false)
 
 -- a band of the answer
-band : (c : tie.Else5) → let a = (past-5 (past-6 c.before.before)).before.before.before.before.args in Plane a.grid a.block_row a.block-col
+band : (c : tie.Else-not-bands_below) → let a = (past-5 (past-6 c.before.before)).args in Plane a.grid a.block_row a.block_col
 band c = let b = past-6 c.before.before in plane _ (accepted (past-5 b).before) _ _ (block_in _ _ _ (q6-yes b))
 
-check-requires : tie.Need-check-requires
+check-requires : tie.Need-check-number-requires
 check-requires c κs = search rules
 
-returns : tie.Need-returns
+returns : tie.Need-returns-then-number-ne0
 unfolding block_number
-returns c = c.before.check.ensures ∙ sym (grid-no _ _ (λ e. c.if1.true (c.before.check.ensures ∙ e)))
+returns c = c.check-number.ensures ∙ sym (grid-no _ _ (λ e. c.if-number-ne0.true (c.check-number.ensures ∙ e)))
 
-returns-2 : tie.Need-returns-2
-returns-2 c = rw (rest c.before, ne_eqb _ _ c.if2.true)
+returns-2 : tie.Need-returns-then-resolution_level-ne0
+returns-2 c = rw (rest c.before, ne_eqb _ _ c.if-resolution_level-ne0.true)
 
-has-block-requires : tie.Need-has-block-requires
+has-block-requires : tie.Need-has_block-requires
 has-block-requires c κs = search rules
 
-returns-3 : tie.Need-returns-3
+returns-3 : tie.Need-returns-then-not-has_block
 returns-3 c =
     let d = c.before.before in
-    rw (rest d.before, q5-yes d, no c.before.has_block.ensures c.if3.true)
+    rw (rest d.before, q5-yes d, no c.has_block.ensures c.if-not-has_block.true)
 
-block-end-requires : tie.Need-block-end-requires
+block-end-requires : tie.Need-block_end-requires
 block-end-requires c κs = (accepted (past-5 c).before, block_in _ _ _ (q6-yes c))
 
-returns-4 : tie.Need-returns-4
+returns-4 : tie.Need-returns-then-image-block_end
 returns-4 c =
     let b = c.before.before in
     let d = past-5 b in
-    rw (rest d.before, q5-yes d, q6-yes b, lt-leb _ _ (rw c.before.block-end.ensures at c.if4.true))
+    rw (rest d.before, q5-yes d, q6-yes b, lt-leb _ _ (rw c.block_end.ensures at c.if-image-block_end.true))
 
-bands-below-requires : tie.Need-bands-below-requires
+bands-below-requires : tie.Need-bands_below-requires
 bands-below-requires c κs = search rules
 
-returns-5 : tie.Need-returns-5
+returns-5 : tie.Need-returns-then-not-bands_below
 returns-5 c =
     let r = c.before.before in
     let b = past-6 r in
     let d = past-5 b in
-    rw (rest d.before, q5-yes d, q6-yes b, q7-yes r, no c.before.bands-below.ensures c.if5.true)
+    rw (rest d.before, q5-yes d, q6-yes b, q7-yes r, no c.bands_below.ensures c.if-not-bands_below.true)
 
-actual-rows-requires : tie.Need-actual-rows-requires
+actual-rows-requires : tie.Need-actual_rows-requires
 actual-rows-requires c κs = let b = past-6 c.before.before in (accepted (past-5 b).before, (block_in _ _ _ (q6-yes b)).in_row)
 
-actual-columns-requires : tie.Need-actual-columns-requires
+actual-columns-requires : tie.Need-actual_columns-requires
 actual-columns-requires c κs = let b = past-6 c.before.before.before in (accepted (past-5 b).before, (block_in _ _ _ (q6-yes b)).in_column)
 
-mul-plane : tie.Need-overflow-mul-plane
-mul-plane c = rw (c.before.actual-rows.ensures, c.actual-columns.ensures) (record { fits = (band c.before.before).samples })
+mul-plane : tie.Need-overflow_mul-plane
+mul-plane c = rw (c.actual_rows.ensures, c.actual_columns.ensures) (record { fits = (band c.before.before).samples })
 
-sample-bytes-requires : tie.Need-sample-bytes-requires
+sample-bytes-requires : tie.Need-sample_bytes-requires
 sample-bytes-requires c κs = search rules
 
-mul-plane-2 : tie.Need-overflow-mul-plane-2
+mul-plane-2 : tie.Need-overflow_mul-plane-2
 mul-plane-2 c =
-    rw (c.before.before.actual-rows.ensures, c.before.actual-columns.ensures, c.sample-bytes.ensures)
+    rw (c.actual_rows.ensures, c.actual_columns.ensures, c.sample_bytes.ensures)
     (record { fits = (band c.before.before.before).bytes })
 
-band-count-requires : tie.Need-band-count-requires
+band-count-requires : tie.Need-band_count-requires
 band-count-requires c κs = search rules
 
-product-fits-requires : tie.Need-product-fits-requires
+product-fits-requires : tie.Need-product_fits-requires
 product-fits-requires c κs = search rules
 
 -- question 9, as the code asks it
-q9-is : (c : tie.After-product-fits)
-    → let a = (past-5 (past-6 (past_8 c).before.before)).before.before.before.before.args in
-    c.product-fits.result ≡ room_for a.grid a.block_row a.block-col (bands_of a.all a.bands.now) a.room
+q9-is : (c : tie.After-product_fits)
+    → let a = (past-5 (past-6 (past_8 c).before.before)).args in
+    c.product_fits.result ≡ room_for a.grid a.block_row a.block_col (bands_of a.all a.bands.now) a.room
 q9-is c =
     let n = c.before in
-    let s = n.before in
-    rw (s.before.before.actual-rows.ensures, s.before.actual-columns.ensures, s.sample-bytes.ensures, n.band-count.ensures) at
-    c.product-fits.ensures
+    let s = n in
+    rw (s.actual_rows.ensures, s.actual_columns.ensures, s.sample_bytes.ensures, n.band_count.ensures) at
+    c.product_fits.ensures
     ∙ room-is _ _ _ _ _
 
 -- the number, once question 8 is passed
-last : (c : tie.After-product-fits)
-    → let a = (past-5 (past-6 (past_8 c).before.before)).before.before.before.before.args in
+last : (c : tie.After-product_fits)
+    → let a = (past-5 (past-6 (past_8 c).before.before)).args in
     let bs = bands_of a.all a.bands.now in
-    block_number a.grid a.image a.block_row a.block-col a.resolution-level bs a.room ≡ ask 9 c.product-fits.result 0
+    block_number a.grid a.image a.block_row a.block_col a.resolution_level bs a.room ≡ ask 9 c.product_fits.result 0
 last c =
     let e = past_8 c in
     let r = e.before.before in
     let b = past-6 r in
     let d = past-5 b in
-    rw (rest d.before, q5-yes d, q6-yes b, q7-yes r, yes e.before.bands-below.ensures e.if5.left)
+    rw (rest d.before, q5-yes d, q6-yes b, q7-yes r, yes e.bands_below.ensures e.if-not-bands_below.false)
     (ap (λ (b : Bool). ask 9 b 0) (sym (q9-is c)))
 
-returns-6 : tie.Need-returns-6
+returns-6 : tie.Need-returns-then-not-product_fits
 returns-6 c =
-    let e : c.before.product-fits.result ≡ false = not-true _ c.if6.true in
+    let e : c.product_fits.result ≡ false = c.if-not-product_fits.true in
     sym (last c.before ∙ ap (λ (b : Bool). ask 9 b 0) e)
 
-returns-7 : tie.Need-returns-7
+returns-7 : tie.Need-returns
 returns-7 c =
-    let e : c.before.product-fits.result ≡ true = not-false _ c.if6.false in
+    let e : c.product_fits.result ≡ true = c.if-not-product_fits.false in
     sym (last c.before ∙ ap (λ (b : Bool). ask 9 b 0) e)
 
 pub block_number_spec : {M : Type 1} → statement M

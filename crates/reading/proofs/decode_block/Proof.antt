@@ -12,44 +12,44 @@ use Rattle.reading.proofs.BlockReads.{block-readable, block-done}
 use Rattle.reading.proofs.decode_block.Statement.{statement}
 use Rattle.reading.proofs.decode_block.Tie as tie
 
-accepted : (c : tie.Else1) → let a = c.before.before.before.before.before.args in block_number a.grid (length a.image.now) a.block_row a.block-col a.resolution-level (bands_of a.all a.bands.now) (length a.out.now) ≡ 0
-accepted c = sym c.before.block-number.ensures ∙ c.if1.false
+accepted : (c : tie.Else-number-ne0) → let a = c.args in block_number a.grid (length a.image.now) a.block_row a.block_col a.resolution_level (bands_of a.all a.bands.now) (length a.out.now) ≡ 0
+accepted c = sym c.block_number-number.ensures ∙ c.if-number-ne0.false
 
-facts : (c : tie.Else1) → let a = c.before.before.before.before.before.args in Read a.grid (length a.image.now) a.block_row a.block-col a.resolution-level (bands_of a.all a.bands.now) (length a.out.now)
+facts : (c : tie.Else-number-ne0) → let a = c.args in Read a.grid (length a.image.now) a.block_row a.block_col a.resolution_level (bands_of a.all a.bands.now) (length a.out.now)
 facts c = read-facts _ _ _ _ _ _ _ (accepted c)
 
-block-number-requires : tie.Need-block-number-requires
+block-number-requires : tie.Need-block_number-number-requires
 block-number-requires c κs = search rules
 
 refused-requires : tie.Need-refused-requires
 refused-requires c κs = search rules
 
-returns : tie.Need-returns
+returns : tie.Need-returns-then-number-ne0
 unfolding block_read
 returns c =
     rw c.refused.ensures
-    (refused-by _ (λ n. filled_with (no_shape n) _) c.before.before.block-number.ensures c.before.if1.true)
+    (refused-by _ (λ n. filled_with (no_shape n) _) c.block_number-number.ensures c.if-number-ne0.true)
 
-block-layout-requires : tie.Need-block-layout-requires
+block-layout-requires : tie.Need-block_layout-layout-requires
 block-layout-requires c κs = let t = facts c in (t.accepted, t.block)
 
-read-planes-requires : tie.Need-read-planes-requires
-read-planes-requires c κs = rw c.before.block-layout.ensures (block-readable _ _ _ _ _ _ _ (facts c.before.before))
+read-planes-requires : tie.Need-read_planes-requires
+read-planes-requires c κs = rw c.block_layout-layout.ensures (block-readable _ _ _ _ _ _ _ (facts c.before.before))
 
-band-count-requires : tie.Need-band-count-requires
+band-count-requires : tie.Need-band_count-requires
 band-count-requires c κs = search rules
 
-same_length : tie.Need-same-length
+same_length : tie.Need-shape_of-out
 same_length c = search rules
 
-returns-2 : tie.Need-returns-2
+returns-2 : tie.Need-returns
 returns-2 c =
     let laid = c.before.before.before.before.before in
     let h = laid.before in
-    let a = h.before.before.before.before.before.args in
-    rw (c.band-count.ensures, laid.block-layout.ensures)
-    (block-done a.grid a.image.now a.block_row a.block-col a.resolution-level (bands_of a.all a.bands.now) a.out.now
-    (accepted h) (facts h) (rw laid.block-layout.ensures at c.before.before.before.read-planes.ensures))
+    let a = h.args in
+    rw (c.band_count.ensures, laid.block_layout-layout.ensures)
+    (block-done a.grid a.image.now a.block_row a.block_col a.resolution_level (bands_of a.all a.bands.now) a.out.now
+    (accepted h) (facts h) (rw laid.block_layout-layout.ensures at c.read_planes.ensures))
 
 pub decode_block_spec : {M : Type 1} → statement M
 decode_block_spec =

@@ -10,19 +10,19 @@ use Rattle.windows.proofs.WindowQuestions.{leb_left}
 use Rattle.windows.proofs.is_inside.Statement.{statement}
 use Rattle.windows.proofs.is_inside.Tie as tie
 
-returns : tie.Need-returns
+returns : tie.Need-returns-then-length-lt1
 unfolding inside every
-returns c = rw (lt-leb _ _ c.if1.true)
+returns c = rw (lt-leb _ _ c.if-length-lt1.true)
 
-returns-2 : tie.Need-returns-2
+returns-2 : tie.Need-returns-then-side-length
 unfolding inside every
 returns-2 c =
-    let a = c.before.before.args in
-    rw (le-leb _ _ c.before.if1.false, lt-leb (a.start + a.length) a.side (omega arith))
+    let a = c.args in
+    rw (le-leb _ _ c.if-length-lt1.false, lt-leb (a.start + a.length) a.side (omega arith))
 
-returns-3 : tie.Need-returns-3
+returns-3 : tie.Need-returns
 unfolding inside every
-returns-3 c = rw (le-leb _ _ c.before.if1.false, leb_left _ _ _ c.if2.false) (every-last _)
+returns-3 c = rw (le-leb _ _ c.if-length-lt1.false, leb_left _ _ _ c.if-side-length.false) (every-last _)
 
 pub is_inside_spec : {M : Type 1} → statement M
 is_inside_spec = tie.close (tie.spec returns returns-2 returns-3)

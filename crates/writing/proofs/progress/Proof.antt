@@ -16,35 +16,35 @@ use Rattle.writing.proofs.progress.Statement.{statement}
 use Rattle.writing.proofs.progress.Tie as tie
 
 -- the call is accepted, and what that tells
-zero : (c : tie.Else1) → let a = c.before.before.before.args in progress_number a.grid (length a.marks.now) ≡ 0
-zero c = sym c.before.marks-number.ensures ∙ c.if1.false
+zero : (c : tie.Else-number-ne0) → let a = c.args in progress_number a.grid (length a.marks.now) ≡ 0
+zero c = sym c.marks_number-number.ensures ∙ c.if-number-ne0.false
 
-accepted : (c : tie.Else1) → Accepted c.before.before.before.args.grid
+accepted : (c : tie.Else-number-ne0) → Accepted c.args.grid
 unfolding progress_number
 accepted c = accepted_of _ (grid-inv _ _ (zero c)).0
 
-marks-number-requires : tie.Need-marks-number-requires
+marks-number-requires : tie.Need-marks_number-number-requires
 marks-number-requires c κs = search rules
 
 answer-requires : tie.Need-answer-requires
 answer-requires c κs = search rules
 
-returns : tie.Need-returns
+returns : tie.Need-returns-then-number-ne0
 unfolding progress
 returns c =
-    let a = c.before.before.before.before.args in
+    let a = c.args in
     rw c.answer.ensures
-    (refused-by _ number c.before.before.marks-number.ensures c.before.if1.true)
+    (refused-by _ number c.marks_number-number.ensures c.if-number-ne0.true)
 
-blocks-requires : tie.Need-blocks-requires
+blocks-requires : tie.Need-blocks-blocks-requires
 blocks-requires c κs = accepted c
 
-count-marks-requires : tie.Need-count-marks-requires
-count-marks-requires c κs = omega (arith, c.blocks2.ensures, progress-facts _ _ (zero c.before))
+count-marks-requires : tie.Need-count_marks-requires
+count-marks-requires c κs = omega (arith, c.blocks-blocks.ensures, progress-facts _ _ (zero c.before))
 
-returns-2 : tie.Need-returns-2
+returns-2 : tie.Need-returns
 unfolding progress outcome
-returns-2 c = rw (c.count-marks.ensures, c.before.blocks2.ensures, zero c.before.before)
+returns-2 c = rw (c.count_marks.ensures, c.blocks-blocks.ensures, zero c.before.before)
 
 pub progress_spec : {M : Type 1} → statement M
 progress_spec =

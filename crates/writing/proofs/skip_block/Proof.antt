@@ -14,43 +14,43 @@ use Rattle.writing.proofs.skip_block.Statement.{statement}
 use Rattle.writing.proofs.skip_block.Tie as tie
 
 -- the call is accepted, and what that tells
-zero : (c : tie.Else1)
-    → let a = c.before.before.before.before.args in
-    skip_number a.grid (length a.image.now) (length a.marks.now) a.block_row a.block-col ≡ 0
-zero c = sym c.before.block-number.ensures ∙ c.if1.false
+zero : (c : tie.Else-number-ne0)
+    → let a = c.args in
+    skip_number a.grid (length a.image.now) (length a.marks.now) a.block_row a.block_col ≡ 0
+zero c = sym c.block_number-number.ensures ∙ c.if-number-ne0.false
 
-enough : (c : tie.Else1)
-    → let a = c.before.before.before.before.args in Enough a.grid (length a.image.now) (length a.marks.now) × Block a.grid a.block_row a.block-col
+enough : (c : tie.Else-number-ne0)
+    → let a = c.args in Enough a.grid (length a.image.now) (length a.marks.now) × Block a.grid a.block_row a.block_col
 enough c = skip-facts _ _ _ _ _ (zero c)
 
-block-number-requires : tie.Need-block-number-requires
+block-number-requires : tie.Need-block_number-number-requires
 block-number-requires c κs = search rules
 
 answer-requires : tie.Need-answer-requires
 answer-requires c κs = search rules
 
-returns : tie.Need-returns
+returns : tie.Need-returns-then-number-ne0
 unfolding skip
 returns c =
-    let a = c.before.before.before.before.before.args in
+    let a = c.args in
     rw c.answer.ensures
-    (refused-by _ (unchanged a.image.now a.marks.now) c.before.before.block-number.ensures c.before.if1.true)
+    (refused-by _ (unchanged a.image.now a.marks.now) c.block_number-number.ensures c.if-number-ne0.true)
 
-block-index-requires : tie.Need-block-index-requires
+block-index-requires : tie.Need-block_index-index-requires
 block-index-requires c κs = let k = enough c in (k.0.accepted, k.1)
 
-set-mark-requires : tie.Need-set-mark-requires
-set-mark-requires c κs = let k = enough c.before.before in rw c.before.block-index.ensures (mark_in _ _ _ _ k.0.words k.1)
+set-mark-requires : tie.Need-set_mark-requires
+set-mark-requires c κs = let k = enough c.before.before in rw c.block_index-index.ensures (mark_in _ _ _ _ k.0.words k.1)
 
 answer-requires-2 : tie.Need-answer-requires-2
 answer-requires-2 c κs = search rules
 
-same_length : tie.Need-same-length
+same_length : tie.Need-shape_of-marks
 same_length c = search rules
 
-returns-2 : tie.Need-returns-2
+returns-2 : tie.Need-returns
 unfolding skip outcome
-returns-2 c = rw (c.answer2.ensures, c.before.before.before.set-mark.ensures, c.before.before.before.before.before.block-index.ensures, zero c.before.before.before.before.before.before)
+returns-2 c = rw (c.answer-2.ensures, c.set_mark.ensures, c.block_index-index.ensures, zero c.before.before.before.before.before.before)
 
 pub skip_block_spec : {M : Type 1} → statement M
 skip_block_spec =

@@ -40,7 +40,7 @@ returns c =
     let d : List ℕ = s.args.part.now in
     let e : f.at + f.size - f.at ≡ f.size = omega arith in
     let n : length (take (f.at + f.size - f.at) (drop f.at d)) ≡ f.size = rw e (length-bytes_in d f s.requires) in
-    let v : List ℕ = c.put_digits.new.0 in
+    let v : List ℕ = c.put_digits.new.out in
     let q : v ≡ digit_bytes f.size s.args.value = c.put_digits.ensures ∙ ap (λ (k : ℕ). digit_bytes k s.args.value) n in
     ap (λ (k : ℕ). take f.at d ++ (v ++ drop k (drop f.at d))) e
     ∙ put-part d f.at f.size v (ap length q ∙ length-digit_bytes f.size s.args.value) ∙ ap (over d f.at) q

@@ -8,29 +8,29 @@ use Rattle.interleave.proofs.Coordinates.{times-le}
 use Rattle.interleave.proofs.check.output_bytes.Statement.{statement}
 use Rattle.interleave.proofs.check.output_bytes.Tie as tie
 
-returns : tie.Need-returns
-returns c = rw c.if1.true (omega arith)
+returns : tie.Need-returns-then-count-eq0
+returns c = rw c.if-count-eq0.true (omega arith)
 
-cast-result : tie.Need-overflow-cast-result
+cast-result : tie.Need-overflow_cast-result
 cast-result c = search rules
 
-cast-result-2 : tie.Need-overflow-cast-result-2
+cast-result-2 : tie.Need-overflow_cast-result-2
 cast-result-2 c = search rules
 
-mul-result : tie.Need-overflow-mul-result
+mul-result : tie.Need-overflow_mul-result
 mul-result c =
-    let a = c.before.before.before.args in
+    let a = c.args in
     omega (arith, prod_le a.shape.rows a.shape.columns 4_294_967_295 4_294_967_295 (omega arith) (omega arith))
 
-mul-result-2 : tie.Need-overflow-mul-result-2
+mul-result-2 : tie.Need-overflow_mul-result-2
 mul-result-2 c =
-    let a = c.before.before.before.before.args in
+    let a = c.args in
     omega (arith, times-le a.count (a.shape.rows * a.shape.columns * a.shape.size) (omega arith))
 
-mul-result-3 : tie.Need-overflow-mul-result-3
+mul-result-3 : tie.Need-overflow_mul-result-3
 mul-result-3 c = search rules
 
-returns-2 : tie.Need-returns-2
+returns-2 : tie.Need-returns
 returns-2 c = search rules
 
 pub output_bytes_spec : {M : Type 1} → statement M

@@ -27,104 +27,104 @@ in_order : (p : Counts) → p.rows * p.columns * (p.bands * p.size) ≡ total p
 in_order p = omega arith
 
 -- where the code is past question 2, and the function's start
-abbrev sized : tie.Else3 → tie.Else2
+abbrev sized : tie.Else-not-product_fits → tie.Else-size-gt8
 sized c = c.before.before.before.before.before
 
-abbrev start : tie.Else3 → tie.Start
+abbrev start : tie.Else-not-product_fits → tie.Start
 start c = (sized c).before.before.before
 
-abbrev entry : tie.Else5 → tie.Start
+abbrev entry : tie.Else-not-bands_below → tie.Start
 entry c = start c.before.before.before
 
 -- what holds once the code is past a question
-past_2 : (c : tie.Else2) → within 1 8 c.before.before.before.args.shape.size ≡ true
+past_2 : (c : tie.Else-size-gt8) → within 1 8 c.args.shape.size ≡ true
 unfolding within every
-past_2 c = let s : ℕ = c.before.before.before.args.shape.size in simp (le-leb 1 s (omega arith), le-leb s 8 (omega arith))
+past_2 c = let s : ℕ = c.args.shape.size in simp (le-leb 1 s (omega arith), le-leb s 8 (omega arith))
 
-past_4 : (c : tie.Else3) → let p = (start c).args.shape in (within 1 8 p.size ≡ true) × (leb (total p) 4_294_967_294 ≡ true)
-past_4 c = (past_2 (sized c), rw (in_order (start c).args.shape) at (yes c.before.product-fits.ensures c.if3.false))
+past_4 : (c : tie.Else-not-product_fits) → let p = (start c).args.shape in (within 1 8 p.size ≡ true) × (leb (total p) 4_294_967_294 ≡ true)
+past_4 c = (past_2 (sized c), rw (in_order (start c).args.shape) at (yes c.product_fits.ensures c.if-not-product_fits.false))
 
-past_14 : (c : tie.Else4) → let a = (start c.before).args in eqb a.«data» (total a.shape) ≡ true
+past_14 : (c : tie.Else-data-pixels) → let a = (start c.before).args in eqb a.«data» (total a.shape) ≡ true
 past_14 c =
     let a = (start c.before).args in
-    eq-eqb a.«data» (total a.shape) (c.if4.false ∙ in_order a.shape)
+    eq-eqb a.«data» (total a.shape) (c.if-data-pixels.false ∙ in_order a.shape)
 
-past_8 : (c : tie.Else5)
+past_8 : (c : tie.Else-not-bands_below)
     → let a = (entry c).args in
     q8 a.shape.bands (bands_of a.all a.list.now) ≡ true
-past_8 c = yes c.before.bands-below.ensures c.if5.false
+past_8 c = yes c.bands_below.ensures c.if-not-bands_below.false
 
 -- the answer to question 9
-room : (c : tie.After-product-fits2)
+room : (c : tie.After-product_fits-2)
     → let a = (entry c.before.before.before).args in
-    c.product-fits2.result ≡ leb (band_count a.shape.bands (bands_of a.all a.list.now) * a.shape.rows * a.shape.columns * a.shape.size) a.room
+    c.product_fits-2.result ≡ leb (band_count a.shape.bands (bands_of a.all a.list.now) * a.shape.rows * a.shape.columns * a.shape.size) a.room
 room c =
     let a = (entry c.before.before.before).args in
-    c.product-fits2.ensures
-    ∙ ap (λ (x : ℕ). leb x a.room) (ap (λ (n : ℕ). n * (a.shape.rows * a.shape.columns * a.shape.size)) c.before.before.band-count.ensures ∙ omega arith)
+    c.product_fits-2.ensures
+    ∙ ap (λ (x : ℕ). leb x a.room) (ap (λ (n : ℕ). n * (a.shape.rows * a.shape.columns * a.shape.size)) c.band_count-count.ensures ∙ omega arith)
 
-returns : tie.Need-returns
+returns : tie.Need-returns-then-size-lt1
 unfolding reorder_number within every
-returns c = simp (lt-leb 1 c.before.before.args.shape.size (omega arith))
+returns c = simp (lt-leb 1 c.args.shape.size (omega arith))
 
-returns-2 : tie.Need-returns-2
+returns-2 : tie.Need-returns-then-size-gt8
 unfolding reorder_number within every
-returns-2 c = let s : ℕ = c.before.before.before.args.shape.size in simp (le-leb 1 s (omega arith), lt-leb s 8 (omega arith))
+returns-2 c = let s : ℕ = c.args.shape.size in simp (le-leb 1 s (omega arith), lt-leb s 8 (omega arith))
 
-cast-pixels : tie.Need-overflow-cast-pixels
+cast-pixels : tie.Need-overflow_cast-pixels
 cast-pixels c = search rules
 
-cast-pixels-2 : tie.Need-overflow-cast-pixels-2
+cast-pixels-2 : tie.Need-overflow_cast-pixels-2
 cast-pixels-2 c = search rules
 
-mul-pixels : tie.Need-overflow-mul-pixels
+mul-pixels : tie.Need-overflow_mul-pixels
 mul-pixels c =
-    let p = c.before.before.before.before.before.args.shape in
+    let p = c.args.shape in
     omega (arith, prod_le p.rows p.columns 4_294_967_295 4_294_967_295 (omega arith) (omega arith))
 
-cast-pixel : tie.Need-overflow-cast-pixel
+cast-pixel : tie.Need-overflow_cast-pixel
 cast-pixel c = search rules
 
-mul-pixel : tie.Need-overflow-mul-pixel
+mul-pixel : tie.Need-overflow_mul-pixel
 mul-pixel c =
-    let d = c.before.before.before in
-    let p = d.before.before.before.args.shape in
+    let d = c in
+    let p = d.args.shape in
     omega (arith, prod_le p.bands p.size 4_294_967_295 8 (omega arith) (omega arith))
 
-product-fits-requires : tie.Need-product-fits-requires
+product-fits-requires : tie.Need-product_fits-requires
 product-fits-requires c κs = search rules
 
-returns-3 : tie.Need-returns-3
+returns-3 : tie.Need-returns-then-not-product_fits
 unfolding reorder_number
 returns-3 c =
     let d = c.before.before.before.before.before in
-    let p = d.before.before.before.args.shape in
-    simp (past_2 d, rw (in_order p) at (no c.before.product-fits.ensures c.if3.true))
+    let p = d.args.shape in
+    simp (past_2 d, rw (in_order p) at (no c.product_fits.ensures c.if-not-product_fits.true))
 
-mul-if4 : tie.Need-overflow-mul-if4
+mul-if4 : tie.Need-overflow_mul-pixels-2
 mul-if4 c = omega (arith, leb-true (total (start c).args.shape) 4_294_967_294 (past_4 c).1)
 
-returns-4 : tie.Need-returns-4
+returns-4 : tie.Need-returns-then-data-pixels
 unfolding reorder_number
 returns-4 c =
     let a = (start c.before).args in
     let h = past_4 c.before in
-    simp (h.0, h.1, ne_eqb a.«data» (total a.shape) (λ e. c.if4.true (e ∙ sym (in_order a.shape))))
+    simp (h.0, h.1, ne_eqb a.«data» (total a.shape) (λ e. c.if-data-pixels.true (e ∙ sym (in_order a.shape))))
 
-bands-below-requires : tie.Need-bands-below-requires
+bands-below-requires : tie.Need-bands_below-requires
 bands-below-requires c κs = search rules
 
-returns-5 : tie.Need-returns-5
+returns-5 : tie.Need-returns-then-not-bands_below
 unfolding reorder_number
 returns-5 c =
     let b = c.before.before in
     let h = past_4 b.before in
-    simp (h.0, h.1, past_14 b, no c.before.bands-below.ensures c.if5.true)
+    simp (h.0, h.1, past_14 b, no c.bands_below.ensures c.if-not-bands_below.true)
 
-band-count-requires : tie.Need-band-count-requires
+band-count-requires : tie.Need-band_count-count-requires
 band-count-requires c κs = search rules
 
-returns-6 : tie.Need-returns-6
+returns-6 : tie.Need-returns-then-count-eq0
 unfolding reorder_number q9
 returns-6 c =
     let d = c.before.before in
@@ -132,36 +132,36 @@ returns-6 c =
     let h = past_4 b.before in
     let a = (entry d).args in
     let n : ℕ = band_count a.shape.bands (bands_of a.all a.list.now) in
-    let e : n ≡ 0 = sym c.before.band-count.ensures ∙ c.if6.true in
+    let e : n ≡ 0 = sym c.band_count-count.ensures ∙ c.if-count-eq0.true in
     simp (h.0, h.1, past_14 b, past_8 d, le-leb (n * a.shape.rows * a.shape.columns * a.shape.size) a.room (rw e (omega arith)))
 
-mul-product-fits : tie.Need-overflow-mul-product-fits
+mul-product-fits : tie.Need-overflow_mul-pixels-3
 mul-product-fits c =
     let d = c.before.before in
     let b = d.before.before in
     let a = (entry d).args in
     let p = a.shape in
-    let n : 0 < p.bands = has_bands p.bands (bands_of a.all a.list.now) (past_8 d) (omega (arith, c.before.band-count.ensures)) in
+    let n : 0 < p.bands = has_bands p.bands (bands_of a.all a.list.now) (past_8 d) (omega (arith, c.band_count-count.ensures)) in
     omega (arith, times-le p.bands (p.rows * p.columns * p.size) n, leb-true (total p) 4_294_967_294 (past_4 b.before).1)
 
-product-fits-requires-2 : tie.Need-product-fits-requires-2
+product-fits-requires-2 : tie.Need-product_fits-requires-2
 product-fits-requires-2 c κs = search rules
 
-returns-7 : tie.Need-returns-7
+returns-7 : tie.Need-returns-then-not-product_fits-2
 unfolding reorder_number q9
 returns-7 c =
     let d = c.before.before.before.before in
     let b = d.before.before in
     let h = past_4 b.before in
-    simp (h.0, h.1, past_14 b, past_8 d, no (room c.before) c.if7.true)
+    simp (h.0, h.1, past_14 b, past_8 d, no (room c.before) c.if-not-product_fits-2.true)
 
-returns-8 : tie.Need-returns-8
+returns-8 : tie.Need-returns
 unfolding reorder_number q9
 returns-8 c =
     let d = c.before.before.before.before in
     let b = d.before.before in
     let h = past_4 b.before in
-    simp (h.0, h.1, past_14 b, past_8 d, yes (room c.before) c.if7.false)
+    simp (h.0, h.1, past_14 b, past_8 d, yes (room c.before) c.if-not-product_fits-2.false)
 
 pub reorder_number_spec : {M : Type 1} → statement M
 reorder_number_spec =

@@ -8,22 +8,22 @@ use native.Mathlib.Omega.{arith}
 use Rattle.common.proofs.Arith.{prod_le}
 use Rattle.interleave.proofs.Coordinates.{times-le}
 
-cast-rows : tie.Need-overflow-cast-rows
+cast-rows : tie.Need-overflow_cast-rows
 cast-rows c = search rules
 
-cast-columns : tie.Need-overflow-cast-columns
+cast-columns : tie.Need-overflow_cast-columns
 cast-columns c = search rules
 
-mul-plane : tie.Need-overflow-mul-plane
-mul-plane c = let p = c.before.before.args.shape in omega (arith, prod_le p.rows p.columns 4_294_967_295 4_294_967_295 (omega arith) (omega arith))
+mul-plane : tie.Need-overflow_mul-plane
+mul-plane c = let p = c.args.shape in omega (arith, prod_le p.rows p.columns 4_294_967_295 4_294_967_295 (omega arith) (omega arith))
 
-mul-plane-2 : tie.Need-overflow-mul-plane-2
-mul-plane-2 c = let s = c.before.before.before in let p = s.args.shape in omega (arith, s.requires.2, times-le p.bands (p.rows * p.columns * p.size) s.requires.0)
+mul-plane-2 : tie.Need-overflow_mul-plane-2
+mul-plane-2 c = let s = c in let p = s.args.shape in omega (arith, s.requires.2, times-le p.bands (p.rows * p.columns * p.size) s.requires.0)
 
-cast-t7 : tie.Need-overflow-cast-t7
+cast-t7 : tie.Need-overflow_cast-result
 cast-t7 c = search rules
 
-mul-t8 : tie.Need-overflow-mul-t8
+mul-t8 : tie.Need-overflow_mul-result
 mul-t8 c = search rules
 
 returns : tie.Need-returns

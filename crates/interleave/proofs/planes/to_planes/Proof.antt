@@ -12,48 +12,48 @@ use Rattle.interleave.proofs.Accepted.{accepted, has_bands}
 use Rattle.interleave.proofs.KnownSamples.{no-samples}
 use Rattle.interleave.proofs.OrderPlaces.{order_readable, order_planes}
 
-abbrev entry : tie.Else1 → tie.Start
+abbrev entry : tie.Else-is_empty → tie.Start
 entry c = c.before.before.before.before.before.before
 
 -- there are samples
-some : (c : tie.Else1)
+some : (c : tie.Else-is_empty)
     → let a = (entry c).args in Positive (band_count a.shape.bands (bands_of a.all a.list.now)) a.shape.rows a.shape.columns
 some c =
     let p = (entry c).args.shape in
-    let h = not_empty c.before.before.band-count.result p.rows p.columns (sym c.before.is-empty.ensures ∙ c.if1.false) in
-    (rw c.before.before.band-count.ensures at h.0, h.1, h.2)
+    let h = not_empty c.band_count.result p.rows p.columns (sym c.is_empty.ensures ∙ c.if-is_empty.false) in
+    (rw c.band_count.ensures at h.0, h.1, h.2)
 
-band-count-requires : tie.Need-band-count-requires
+band-count-requires : tie.Need-band_count-requires
 band-count-requires c κs = search rules
 
-is-empty-requires : tie.Need-is-empty-requires
+is-empty-requires : tie.Need-is_empty-requires
 is-empty-requires c κs = search rules
 
-returns : tie.Need-returns
+returns : tie.Need-returns-then-is_empty
 returns c =
-    let asked = c.before.before in
-    let a = asked.before.before.before.before.args in
-    no-samples _ _ _ a.out.now (rw (← c.before.before.band-count.ensures) (eqb-true _ _ (sym c.before.is-empty.ensures ∙ c.if1.true)))
+    let asked = c in
+    let a = asked.args in
+    no-samples _ _ _ a.out.now (rw (← c.band_count.ensures) (eqb-true _ _ (sym c.is_empty.ensures ∙ c.if-is_empty.true)))
 
-order-layout-requires : tie.Need-order-layout-requires
+order-layout-requires : tie.Need-order_layout-layout-requires
 order-layout-requires c κs = let q = accepted _ _ _ _ _ _ _ (entry c).requires in (has_bands _ _ q.listed (some c).0, q.size-high, q.small)
 
-read-planes-requires : tie.Need-read-planes-requires
+read-planes-requires : tie.Need-read_planes-requires
 read-planes-requires c κs =
     let z = c.before.before in
     let q = accepted _ _ _ _ _ _ _ (entry z).requires in
     let h = some z in
-    rw c.before.order-layout.ensures (order_readable _ _ _ _ _ _ _ _ (has_bands _ _ q.listed h.0) h.1 h.2 q)
+    rw c.order_layout-layout.ensures (order_readable _ _ _ _ _ _ _ _ (has_bands _ _ q.listed h.0) h.1 h.2 q)
 
-same_length : tie.Need-same-length
+same_length : tie.Need-shape_of-out
 same_length c = search rules
 
-returns-2 : tie.Need-returns-2
+returns-2 : tie.Need-returns
 returns-2 c =
     let z = c.before.before.before.before.before in
     let a = (entry z).args in
-    rw c.before.before.before.before.order-layout.ensures at c.before.before.read-planes.ensures
-    ∙ ap (over a.out.now 0) (order_planes a.mode a.shape.bands a.shape.rows a.shape.columns a.shape.size a.«data».now (λ i. (z.before.before.before.before.before.shared-slice-known.given i).fits) (bands_of a.all a.list.now))
+    rw c.order_layout-layout.ensures at c.read_planes.ensures
+    ∙ ap (over a.out.now 0) (order_planes a.mode a.shape.bands a.shape.rows a.shape.columns a.shape.size a.«data».now (λ i. (z.shared_slice_known-1.given i).fits) (bands_of a.all a.list.now))
 
 pub to_planes_spec : {M : Type 1} → statement M
 to_planes_spec =

@@ -15,8 +15,8 @@ use Rattle.reading.proofs.BlockNumbers.{Whole, whole-facts}
 use Rattle.reading.proofs.whole.whole_block.Statement.{statement}
 use Rattle.reading.proofs.whole.whole_block.Tie as tie
 
-known : (c : tie.Else1) → let a = c.before.before.before.args in Whole a.grid (length a.image.now) a.block_row a.block-col
-known c = whole-facts _ _ _ _ (sym c.before.whole-number.ensures ∙ c.if1.false)
+known : (c : tie.Else-whole_number-ne0) → let a = c.args in Whole a.grid (length a.image.now) a.block_row a.block_col
+known c = whole-facts _ _ _ _ (sym c.whole_number.ensures ∙ c.if-whole_number-ne0.false)
 
 -- a part told by its start and its length
 part-is : (xs : List ℕ) (start size : ℕ) → take (start + size - start) (drop start xs) ≡ take size (drop start xs)
@@ -26,53 +26,53 @@ part-is xs start size = let e : start + size - start ≡ size = omega arith in r
 from_start : (first start at : ℕ) → start ≡ at → start + first ≡ first + at
 from_start first start at e = omega arith
 
-whole-number-requires : tie.Need-whole-number-requires
+whole-number-requires : tie.Need-whole_number-requires
 whole-number-requires c κs = search rules
 
-sub-result : tie.Need-overflow-sub-result
+sub-result : tie.Need-slice_bounds-result-count
 sub-result c = search rules
 
-part-result-start : tie.Need-slice-bounds-result-start
+part-result-start : tie.Need-slice_bounds-result-start
 part-result-start c = search rules
 
-part-result-end : tie.Need-slice-bounds-result-end
+part-result-end : tie.Need-slice_bounds-result-end
 part-result-end c = search rules
 
-returns : tie.Need-returns
+returns : tie.Need-returns-then-whole_number-ne0
 unfolding whole_block whole_at
 returns c =
-    let number = c.before.before.whole-number.ensures in
-    let refused = c.before.if1.true in (
+    let number = c.whole_number.ensures in
+    let refused = c.if-whole_number-ne0.true in (
       refused-by _ (λ n. []) number refused,
       (refl, from_start _ _ _ (refused-by _ (λ n. 0) number refused)),
     )
 
-whole-block-requires : tie.Need-whole-block-requires
+whole-block-requires : tie.Need-whole_block-block-requires
 whole-block-requires c κs = let t = known c in (t.accepted, t.block)
 
-add-end : tie.Need-overflow-add-end
+add-end : tie.Need-overflow_add-end
 add-end c =
     let t = known c.before.before in
-    rw c.before.whole-block.ensures (omega (arith, whole_in _ _ _ t.block, (facts _ t.accepted).image-le))
+    rw c.whole_block-block.ensures (omega (arith, whole_in _ _ _ t.block, (facts _ t.accepted).image-le))
 
-sub-result-2 : tie.Need-overflow-sub-result-2
+sub-result-2 : tie.Need-slice_bounds-result-count-2
 sub-result-2 c = search rules
 
-part-result-start-2 : tie.Need-slice-bounds-result-start-2
+part-result-start-2 : tie.Need-slice_bounds-result-start-2
 part-result-start-2 c = search rules
 
-part-result-end-2 : tie.Need-slice-bounds-result-end-2
-part-result-end-2 c = rw c.before.whole-block.ensures (known c.before.before).reached
+part-result-end-2 : tie.Need-slice_bounds-result-end-2
+part-result-end-2 c = rw c.whole_block-block.ensures (known c.before.before).reached
 
-returns-2 : tie.Need-returns-2
+returns-2 : tie.Need-returns
 unfolding whole_block whole_at
 returns-2 c =
     let w = c.before.before in
-    let h = w.before in
-    let a = h.before.before.before.args in
-    let start : ℕ = whole_start a.grid a.block_row a.block-col in
-    let accepted = sym h.before.whole-number.ensures ∙ h.if1.false in
-    rw w.whole-block.ensures (
+    let h = w in
+    let a = h.args in
+    let start : ℕ = whole_start a.grid a.block_row a.block_col in
+    let accepted = sym h.whole_number.ensures ∙ h.if-whole_number-ne0.false in
+    rw w.whole_block-block.ensures (
       part-is a.image.now start (whole_length a.grid) ∙ sym (outcome-yes _ (λ n. []) accepted),
       (refl, from_start _ _ _ (sym (outcome-yes start (λ n. 0) accepted))),
     )

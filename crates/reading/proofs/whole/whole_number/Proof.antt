@@ -13,46 +13,46 @@ use Rattle.calls.specs.Orders.{whole_number}
 use Rattle.reading.proofs.whole.whole_number.Statement.{statement}
 use Rattle.reading.proofs.whole.whole_number.Tie as tie
 
-accepted : (c : tie.Else1) → Accepted c.before.before.before.args.grid
-accepted c = sym c.before.check.ensures ∙ c.if1.false
+accepted : (c : tie.Else-number-ne0) → Accepted c.args.grid
+accepted c = sym c.check-number.ensures ∙ c.if-number-ne0.false
 
-q6-yes : (c : tie.Else2) → let a = c.before.before.before.before.before.args in q6 a.grid a.block_row a.block-col ≡ true
-q6-yes c = yes c.before.has_block.ensures c.if2.false
+q6-yes : (c : tie.Else-not-has_block) → let a = c.args in q6 a.grid a.block_row a.block_col ≡ true
+q6-yes c = yes c.has_block.ensures c.if-not-has_block.false
 
-check-requires : tie.Need-check-requires
+check-requires : tie.Need-check-number-requires
 check-requires c κs = search rules
 
-returns : tie.Need-returns
+returns : tie.Need-returns-then-number-ne0
 unfolding whole_number
-returns c = c.before.check.ensures ∙ sym (grid-no _ _ (λ e. c.if1.true (c.before.check.ensures ∙ e)))
+returns c = c.check-number.ensures ∙ sym (grid-no _ _ (λ e. c.if-number-ne0.true (c.check-number.ensures ∙ e)))
 
-has-block-requires : tie.Need-has-block-requires
+has-block-requires : tie.Need-has_block-requires
 has-block-requires c κs = search rules
 
-returns-2 : tie.Need-returns-2
+returns-2 : tie.Need-returns-then-not-has_block
 unfolding whole_number
-returns-2 c = rw (grid-yes _ _ (accepted c.before.before), no c.before.has_block.ensures c.if2.true)
+returns-2 c = rw (grid-yes _ _ (accepted c.before.before), no c.has_block.ensures c.if-not-has_block.true)
 
-whole-block-requires : tie.Need-whole-block-requires
+whole-block-requires : tie.Need-whole_block-block-requires
 whole-block-requires c κs = (accepted c.before.before, block_in _ _ _ (q6-yes c))
 
-add-if3 : tie.Need-overflow-add-if3
+add-if3 : tie.Need-overflow_add-block
 add-if3 c =
     let b = c.before.before in
-    rw c.before.whole-block.ensures
+    rw c.whole_block-block.ensures
     (omega (arith, whole_in _ _ _ (block_in _ _ _ (q6-yes b)), (facts _ (accepted b.before.before)).image-le))
 
-returns-3 : tie.Need-returns-3
+returns-3 : tie.Need-returns-then-image-block
 unfolding whole_number
 returns-3 c =
     let b = c.before.before.before in
-    rw (grid-yes _ _ (accepted b.before.before), q6-yes b, lt-leb _ _ (rw c.before.before.whole-block.ensures at c.if3.true))
+    rw (grid-yes _ _ (accepted b.before.before), q6-yes b, lt-leb _ _ (rw c.whole_block-block.ensures at c.if-image-block.true))
 
-returns-4 : tie.Need-returns-4
+returns-4 : tie.Need-returns
 unfolding whole_number
 returns-4 c =
     let b = c.before.before.before in
-    rw (grid-yes _ _ (accepted b.before.before), q6-yes b, le-leb _ _ (rw c.before.before.whole-block.ensures at c.if3.false))
+    rw (grid-yes _ _ (accepted b.before.before), q6-yes b, le-leb _ _ (rw c.whole_block-block.ensures at c.if-image-block.false))
 
 pub whole_number_spec : {M : Type 1} → statement M
 whole_number_spec =

@@ -15,30 +15,30 @@ use Rattle.windows.proofs.Rectangles.{rows_read, blocks_read, block_in, block-re
 use Rattle.windows.proofs.across.read_rectangle.Statement.{statement}
 use Rattle.windows.proofs.across.read_rectangle.Tie as tie
 
-abbrev invariant-loop2 : tie.invariant-loop2
+abbrev invariant-loop2 : tie.invariant-loop-block_column
 invariant-loop2 image grid row column rows columns all bands out₀ last_row first-column last-column block_row down block-column₀ block-row-end block-column-end out block-column =
     (first-column ≤ block-column) × (block-column ≤ block-column-end) × (length out ≡ length out₀)
     × (out ≡ blocks_read grid (picture_at grid image) (rectangle row column rows columns (bands_of all bands)) block_row block-column out₀)
 
-abbrev decreases-loop2 : tie.decreases-loop2
+abbrev decreases-loop2 : tie.decreases-loop-block_column
 decreases-loop2 image grid row column rows columns all bands out₀ last_row first-column last-column block_row down block-column₀ block-row-end block-column-end out block-column = block-column-end - block-column
 
-abbrev invariant-loop : tie.invariant-loop
+abbrev invariant-loop : tie.invariant-loop-block_row
 invariant-loop image grid row column rows columns all bands out₀ last_row first-column last-column block-row₀ block-row-end out block_row =
     (row / grid.nppbv ≤ block_row) × (block_row ≤ block-row-end) × (length out ≡ length out₀)
     × (out ≡ rows_read grid (picture_at grid image) (rectangle row column rows columns (bands_of all bands)) block_row out₀)
 
-abbrev decreases-loop : tie.decreases-loop
+abbrev decreases-loop : tie.decreases-loop-block_row
 decreases-loop image grid row column rows columns all bands out₀ last_row first-column last-column block-row₀ block-row-end out block_row = block-row-end - block_row
 
 -- the function's start, from where the last column is computed and from a turn; the turn of the outer loop that a turn is in
-abbrev start : tie.After-struct-known3 invariant-loop2 decreases-loop2 invariant-loop decreases-loop → tie.Start invariant-loop2 decreases-loop2 invariant-loop decreases-loop
+abbrev start : tie.After-struct_known-3-1 invariant-loop2 decreases-loop2 invariant-loop decreases-loop → tie.Start invariant-loop2 decreases-loop2 invariant-loop decreases-loop
 start c = c.before.before.before.before.before.before
 
-abbrev entry : tie.In-loop invariant-loop2 decreases-loop2 invariant-loop decreases-loop → tie.Start invariant-loop2 decreases-loop2 invariant-loop decreases-loop
+abbrev entry : tie.In-loop-block_row invariant-loop2 decreases-loop2 invariant-loop decreases-loop → tie.Start invariant-loop2 decreases-loop2 invariant-loop decreases-loop
 entry c = start c.before.before.before
 
-abbrev outer : tie.In-loop2 invariant-loop2 decreases-loop2 invariant-loop decreases-loop → tie.In-loop invariant-loop2 decreases-loop2 invariant-loop decreases-loop
+abbrev outer : tie.In-loop-block_column invariant-loop2 decreases-loop2 invariant-loop decreases-loop → tie.In-loop-block_row invariant-loop2 decreases-loop2 invariant-loop decreases-loop
 outer c = c.before.before.before.before
 
 -- the window that is asked for, and what its questions told
@@ -63,139 +63,139 @@ columns-fit s =
     omega (arith, k.columns-pos, k.columns-end, (sides s).ncols-le, div-le_self (s.args.column + s.args.columns - 1) s.args.grid.nppbh)
 
 -- where the loops are, the window crosses the block
-down : (c : tie.In-loop invariant-loop2 decreases-loop2 invariant-loop decreases-loop)
-    → let s = entry c in Crossed s.args.row s.args.rows s.args.grid.nppbv c.before.loop.block_row
-down c = let s = entry c in crossed _ _ _ _ (sides s).nppbv-pos (known s).picture.rows-pos c.before.loop.invariant.0 c.loop-test.true
+down : (c : tie.In-loop-block_row invariant-loop2 decreases-loop2 invariant-loop decreases-loop)
+    → let s = entry c in Crossed s.args.row s.args.rows s.args.grid.nppbv c.loop-block_row.block_row
+down c = let s = entry c in crossed _ _ _ _ (sides s).nppbv-pos (known s).picture.rows-pos c.loop-block_row.invariant.0 c.loop-block_row-test.true
 
-across : (c : tie.In-loop2 invariant-loop2 decreases-loop2 invariant-loop decreases-loop)
-    → let s = entry (outer c) in Crossed s.args.column s.args.columns s.args.grid.nppbh c.before.loop2.block-column
-across c = let s = entry (outer c) in crossed _ _ _ _ (sides s).nppbh-pos (known s).picture.columns-pos c.before.loop2.invariant.0 c.loop2-test.true
+across : (c : tie.In-loop-block_column invariant-loop2 decreases-loop2 invariant-loop decreases-loop)
+    → let s = entry (outer c) in Crossed s.args.column s.args.columns s.args.grid.nppbh c.loop-block_column.block_column
+across c = let s = entry (outer c) in crossed _ _ _ _ (sides s).nppbh-pos (known s).picture.columns-pos c.loop-block_column.invariant.0 c.loop-block_column-test.true
 
-add-last-row : tie.Need-overflow-add-last-row invariant-loop2 decreases-loop2 invariant-loop decreases-loop
+add-last-row : tie.Need-overflow_add-last_row invariant-loop2 decreases-loop2 invariant-loop decreases-loop
 add-last-row c = let s = c.before.before.before in omega (arith, (known s).picture.rows_end, (sides s).nrows-le)
 
-sub-last-row : tie.Need-overflow-sub-last-row invariant-loop2 decreases-loop2 invariant-loop decreases-loop
+sub-last-row : tie.Need-overflow_sub-last_row invariant-loop2 decreases-loop2 invariant-loop decreases-loop
 sub-last-row c = omega (arith, (known c.before.before.before).picture.rows-pos)
 
-cast-last-row : tie.Need-overflow-cast-last-row invariant-loop2 decreases-loop2 invariant-loop decreases-loop
+cast-last-row : tie.Need-overflow_cast-last_row invariant-loop2 decreases-loop2 invariant-loop decreases-loop
 cast-last-row c = omega (arith, (sides c.before.before.before.before).nppbv-le)
 
-div-last-row : tie.Need-nonzero-div-last-row invariant-loop2 decreases-loop2 invariant-loop decreases-loop
+div-last-row : tie.Need-nonzero_div-last_row invariant-loop2 decreases-loop2 invariant-loop decreases-loop
 div-last-row c = (sides c.before.before.before.before).nppbv-pos
 
-cast-first-column : tie.Need-overflow-cast-first-column invariant-loop2 decreases-loop2 invariant-loop decreases-loop
+cast-first-column : tie.Need-overflow_cast-first_column invariant-loop2 decreases-loop2 invariant-loop decreases-loop
 cast-first-column c = omega (arith, (sides c.before.before.before.before.before).nppbh-le)
 
-div-first-column : tie.Need-nonzero-div-first-column invariant-loop2 decreases-loop2 invariant-loop decreases-loop
+div-first-column : tie.Need-nonzero_div-first_column invariant-loop2 decreases-loop2 invariant-loop decreases-loop
 div-first-column c = (sides c.before.before.before.before.before).nppbh-pos
 
-add-last-column : tie.Need-overflow-add-last-column invariant-loop2 decreases-loop2 invariant-loop decreases-loop
+add-last-column : tie.Need-overflow_add-last_column invariant-loop2 decreases-loop2 invariant-loop decreases-loop
 add-last-column c = let s = c.before.before.before.before.before in omega (arith, (known s).picture.columns-end, (sides s).ncols-le)
 
-sub-last-column : tie.Need-overflow-sub-last-column invariant-loop2 decreases-loop2 invariant-loop decreases-loop
+sub-last-column : tie.Need-overflow_sub-last_column invariant-loop2 decreases-loop2 invariant-loop decreases-loop
 sub-last-column c = omega (arith, (known c.before.before.before.before.before).picture.columns-pos)
 
-cast-last-column : tie.Need-overflow-cast-last-column invariant-loop2 decreases-loop2 invariant-loop decreases-loop
+cast-last-column : tie.Need-overflow_cast-last_column invariant-loop2 decreases-loop2 invariant-loop decreases-loop
 cast-last-column c = omega (arith, (sides (start c)).nppbh-le)
 
-div-last-column : tie.Need-nonzero-div-last-column invariant-loop2 decreases-loop2 invariant-loop decreases-loop
+div-last-column : tie.Need-nonzero_div-last_column invariant-loop2 decreases-loop2 invariant-loop decreases-loop
 div-last-column c = (sides (start c)).nppbh-pos
 
-cast-block-row : tie.Need-overflow-cast-block-row invariant-loop2 decreases-loop2 invariant-loop decreases-loop
+cast-block-row : tie.Need-overflow_cast-block_row invariant-loop2 decreases-loop2 invariant-loop decreases-loop
 cast-block-row c = omega (arith, (sides (start c.before)).nppbv-le)
 
-div-block-row : tie.Need-nonzero-div-block-row invariant-loop2 decreases-loop2 invariant-loop decreases-loop
+div-block-row : tie.Need-overflow_step-block_row invariant-loop2 decreases-loop2 invariant-loop decreases-loop
 div-block-row c = (sides (start c.before)).nppbv-pos
 
-add-block-row-end : tie.Need-overflow-add-block-row-end invariant-loop2 decreases-loop2 invariant-loop decreases-loop
+add-block-row-end : tie.Need-overflow_add-block_row-end invariant-loop2 decreases-loop2 invariant-loop decreases-loop
 add-block-row-end c = omega (arith, rows_fit (start c.before))
 
-loop-holds : tie.Need-loop-init invariant-loop2 decreases-loop2 invariant-loop decreases-loop
+loop-holds : tie.Need-loop-block_row-init invariant-loop2 decreases-loop2 invariant-loop decreases-loop
 loop-holds c =
     let s = start c.before in
     (omega arith, first-last s.args.row s.args.rows s.args.grid.nppbv (sides s).nppbv-pos (known s).picture.rows-pos, refl, rows_start _ _ _ _ (known s) _ _)
 
-cast-cut-of : tie.Need-overflow-cast-cut-of invariant-loop2 decreases-loop2 invariant-loop decreases-loop
+cast-cut-of : tie.Need-overflow_cast-grid invariant-loop2 decreases-loop2 invariant-loop decreases-loop
 cast-cut-of c = omega (arith, (sides (entry c.before)).nppbv-le)
 
-cut-of-requires : tie.Need-cut-of-requires invariant-loop2 decreases-loop2 invariant-loop decreases-loop
+cut-of-requires : tie.Need-cut_of-down-requires invariant-loop2 decreases-loop2 invariant-loop decreases-loop
 cut-of-requires c κs =
     let s = entry c.before in
     let h : s.args.row + s.args.rows ≤ 99_999_999 = omega (arith, (known s).picture.rows_end, (sides s).nrows-le) in
     cut_fits _ _ _ _ h (sides s).nppbv-le (down c.before)
 
-add-block-column-end : tie.Need-overflow-add-block-column-end invariant-loop2 decreases-loop2 invariant-loop decreases-loop
+add-block-column-end : tie.Need-overflow_add-block_column-end invariant-loop2 decreases-loop2 invariant-loop decreases-loop
 add-block-column-end c = omega (arith, columns-fit (entry c.before.before))
 
-loop2-holds : tie.Need-loop2-init invariant-loop2 decreases-loop2 invariant-loop decreases-loop
+loop2-holds : tie.Need-loop-block_column-init invariant-loop2 decreases-loop2 invariant-loop decreases-loop
 loop2-holds c =
     let s = entry c.before.before in
     (omega arith, first-last s.args.column s.args.columns s.args.grid.nppbh (sides s).nppbh-pos (known s).picture.columns-pos, refl, blocks_start _ _ _ _ (known s) _ _ _)
 
-cast-cut-of-2 : tie.Need-overflow-cast-cut-of-2 invariant-loop2 decreases-loop2 invariant-loop decreases-loop
+cast-cut-of-2 : tie.Need-overflow_cast-grid-in-loop-block_column invariant-loop2 decreases-loop2 invariant-loop decreases-loop
 cast-cut-of-2 c = omega (arith, (sides (entry (outer c.before))).nppbh-le)
 
-cut-of-requires-2 : tie.Need-cut-of-requires-2 invariant-loop2 decreases-loop2 invariant-loop decreases-loop
+cut-of-requires-2 : tie.Need-cut_of-across-requires invariant-loop2 decreases-loop2 invariant-loop decreases-loop
 cut-of-requires-2 c κs =
     let s = entry (outer c.before) in
     let h : s.args.column + s.args.columns ≤ 99_999_999 = omega (arith, (known s).picture.columns-end, (sides s).ncols-le) in
     cut_fits _ _ _ _ h (sides s).nppbh-le (across c.before)
 
-block-layout-requires : tie.Need-block-layout-requires invariant-loop2 decreases-loop2 invariant-loop decreases-loop
+block-layout-requires : tie.Need-block_layout-layout-requires invariant-loop2 decreases-loop2 invariant-loop decreases-loop
 block-layout-requires c κs =
     let h = c.before.before in
     let k = known (entry (outer h)) in
     (k.accepted, block_in _ _ _ _ k _ _ (down (outer h)) (across h))
 
-read-part-requires : tie.Need-read-part-requires invariant-loop2 decreases-loop2 invariant-loop decreases-loop
+read-part-requires : tie.Need-read_part-requires invariant-loop2 decreases-loop2 invariant-loop decreases-loop
 read-part-requires c κs =
     let h = c.before.before.before.before in
-    rw (c.before.block-layout.ensures, h.before.before.cut_of.ensures, c.before.before.cut-of2.ensures, h.before.loop2.invariant.2, h.before.before.before.before.before.loop.invariant.2)
+    rw (c.block_layout-layout.ensures, h.cut_of-down.ensures, c.cut_of-across.ensures, h.loop-block_column.invariant.2, h.loop-block_row.invariant.2)
     (block-readable _ _ _ _ (known (entry (outer h))) _ _ (down (outer h)) (across h))
 
-add-block-column : tie.Need-overflow-add-block-column invariant-loop2 decreases-loop2 invariant-loop decreases-loop
+add-block-column : tie.Need-overflow_step-block_column invariant-loop2 decreases-loop2 invariant-loop decreases-loop
 add-block-column c =
     let laid = c.before.before.before.before in
     let h = laid.before.before.before in
-    omega (arith, columns-fit (entry (outer h)), h.loop2-test.true)
+    omega (arith, columns-fit (entry (outer h)), h.loop-block_column-test.true)
 
-loop2-less : tie.Need-loop2-smaller invariant-loop2 decreases-loop2 invariant-loop decreases-loop
+loop2-less : tie.Need-loop-block_column-smaller invariant-loop2 decreases-loop2 invariant-loop decreases-loop
 loop2-less c = omega arith
 
-loop2-again : tie.Need-loop2-preserved invariant-loop2 decreases-loop2 invariant-loop decreases-loop
+loop2-again : tie.Need-loop-block_column-preserved invariant-loop2 decreases-loop2 invariant-loop decreases-loop
 loop2-again c =
     let laid = c.before.before.before.before in
     let h = laid.before.before.before in
     let k = known (entry (outer h)) in
     let y = down (outer h) in
-    let call = c.before.before.read-part in (
-      omega (arith, h.before.loop2.invariant.0),
-      omega (arith, h.loop2-test.true),
-      omega (arith, call.auto, h.before.loop2.invariant.2),
-      block-turn _ _ _ _ k _ _ y (across h) _ _ _ _ (part-is-window _ _ _ _ k _ _ y (across h) _) h.before.loop2.invariant.3
-          (rw (laid.block-layout.ensures, h.before.before.cut_of.ensures, laid.before.cut-of2.ensures) at call.ensures),
+    let call = c.read_part in (
+      omega (arith, h.loop-block_column.invariant.0),
+      omega (arith, h.loop-block_column-test.true),
+      omega (arith, call.auto, h.loop-block_column.invariant.2),
+      block-turn _ _ _ _ k _ _ y (across h) _ _ _ _ (part-is-window _ _ _ _ k _ _ y (across h) _) h.loop-block_column.invariant.3
+          (rw (laid.block_layout-layout.ensures, h.cut_of-down.ensures, laid.cut_of-across.ensures) at call.ensures),
     )
 
-add-block-row : tie.Need-overflow-add-block-row invariant-loop2 decreases-loop2 invariant-loop decreases-loop
-add-block-row c = let k = c.before.before.before.before in omega (arith, rows_fit (entry k), k.loop-test.true)
+add-block-row : tie.Need-overflow_step-block_row-in-loop-block_row invariant-loop2 decreases-loop2 invariant-loop decreases-loop
+add-block-row c = let k = c.before.before.before.before in omega (arith, rows_fit (entry k), k.loop-block_row-test.true)
 
-loop-less : tie.Need-loop-smaller invariant-loop2 decreases-loop2 invariant-loop decreases-loop
+loop-less : tie.Need-loop-block_row-smaller invariant-loop2 decreases-loop2 invariant-loop decreases-loop
 loop-less c = omega arith
 
-loop-again : tie.Need-loop-preserved invariant-loop2 decreases-loop2 invariant-loop decreases-loop
+loop-again : tie.Need-loop-block_row-preserved invariant-loop2 decreases-loop2 invariant-loop decreases-loop
 loop-again c =
     let k = c.before.before.before.before in (
-      omega (arith, k.before.loop.invariant.0),
-      omega (arith, k.loop-test.true),
-      c.before.loop2.invariant.2 ∙ k.before.loop.invariant.2,
-      rows-turn _ _ _ _ (known (entry k)) _ _ _ _ (down k) k.before.loop.invariant.3 (omega (arith, c.before.loop2.invariant.1, c.loop2-test.false)) c.before.loop2.invariant.3,
+      omega (arith, k.loop-block_row.invariant.0),
+      omega (arith, k.loop-block_row-test.true),
+      c.loop-block_column.invariant.2 ∙ k.loop-block_row.invariant.2,
+      rows-turn _ _ _ _ (known (entry k)) _ _ _ _ (down k) k.loop-block_row.invariant.3 (omega (arith, c.loop-block_column.invariant.1, c.loop-block_column-test.false)) c.loop-block_column.invariant.3,
     )
 
-same_length : tie.Need-same-length invariant-loop2 decreases-loop2 invariant-loop decreases-loop
+same_length : tie.Need-shape_of-out invariant-loop2 decreases-loop2 invariant-loop decreases-loop
 same_length c = omega arith
 
 returns : tie.Need-returns invariant-loop2 decreases-loop2 invariant-loop decreases-loop
-returns c = rows-done _ _ _ _ (known (start c.before.before.before)) _ _ _ refl (omega (arith, c.before.loop.invariant.1, c.loop-test.false)) c.before.loop.invariant.3
+returns c = rows-done _ _ _ _ (known (start c.before.before.before)) _ _ _ refl (omega (arith, c.loop-block_row.invariant.1, c.loop-block_row-test.false)) c.loop-block_row.invariant.3
 
 pub read_rectangle_spec : {M : Type 1} → statement M
 read_rectangle_spec =

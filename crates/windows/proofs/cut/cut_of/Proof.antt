@@ -9,40 +9,41 @@ use native.Mathlib.Nat.{mul-le-mul_left}
 use Rattle.windows.specs.Internal.Windows.{cut_of}
 use Rattle.windows.proofs.Cuts.{side_pos}
 use Rattle.windows.proofs.cut.cut_of.Statement.{statement}
+use Rattle.windows.proofs.cut.cut_of.Lts.{then-first-start, else-first-start, then-start-length, else-start-length}
 use Rattle.windows.proofs.cut.cut_of.Tie as tie
 
 -- the two ends after their tests
-top-is : (c : tie.Joined1) → let a = c.before.args in c.if1.top ≡ max a.start (a.i * a.side)
-top-is c = ⊎_elim (λ w. omega arith) (λ w. omega arith) c.if1.branch
+top-is : (c : tie.Joined-first-start) → let a = c.args in c.if-first-start.top ≡ max a.start (a.i * a.side)
+top-is c = elim c.if-first-start.branch [ then-first-start w ↦ omega arith | else-first-start w ↦ omega arith ]
 
-end_is : (c : tie.Joined2) → let a = c.before.before.args in c.if2.end ≡ min (a.start + a.length) ((a.i + 1) * a.side)
-end_is c = ⊎_elim (λ w. omega arith) (λ w. omega arith) c.if2.branch
+end_is : (c : tie.Joined-start-length) → let a = c.args in c.if-start-length.end ≡ min (a.start + a.length) ((a.i + 1) * a.side)
+end_is c = elim c.if-start-length.branch [ then-start-length w ↦ omega arith | else-start-length w ↦ omega arith ]
 
-mul-first : tie.Need-overflow-mul-first
+mul-first : tie.Need-overflow_mul-first
 mul-first c = search rules
 
-add-end : tie.Need-overflow-add-end
+add-end : tie.Need-overflow_add-end
 add-end c =
-    let a = c.before.args in
-    let p = side_pos a.start a.side a.i c.before.requires.2 in
+    let a = c.args in
+    let p = side_pos a.start a.side a.i c.requires.2 in
     record { fits = omega (arith, mul-le-mul_left (a.i + 1) p) }
 
-mul-end : tie.Need-overflow-mul-end
+mul-end : tie.Need-overflow_mul-end
 mul-end c = search rules
 
-add-if2 : tie.Need-overflow-add-if2
+add-if2 : tie.Need-overflow_add-start
 add-if2 c = search rules
 
-add-end-2 : tie.Need-overflow-add-end-2
+add-end-2 : tie.Need-overflow_add-end-then-start-length
 add-end-2 c = search rules
 
-sub-t9 : tie.Need-overflow-sub-t9
+sub-t9 : tie.Need-overflow_sub-result
 sub-t9 c = omega (arith, top-is c.before.before)
 
-sub-t10 : tie.Need-overflow-sub-t10
+sub-t10 : tie.Need-overflow_sub-result-2
 sub-t10 c = omega (arith, top-is c.before.before.before, end_is c.before.before)
 
-sub-t11 : tie.Need-overflow-sub-t11
+sub-t11 : tie.Need-overflow_sub-result-3
 sub-t11 c = omega (arith, top-is c.before.before.before)
 
 returns : tie.Need-returns

@@ -11,27 +11,27 @@ use Rattle.writing.proofs.check.block_number.Statement.{statement}
 use Rattle.writing.proofs.check.block_number.Tie as tie
 
 -- past question 12
-asked : (c : tie.Else1)
-    → let a = c.before.before.args in
-    skip_number a.grid a.image a.words a.block_row a.block-col ≡ ask 6 (q6 a.grid a.block_row a.block-col) 0
+asked : (c : tie.Else-number-ne0)
+    → let a = c.args in
+    skip_number a.grid a.image a.words a.block_row a.block_col ≡ ask 6 (q6 a.grid a.block_row a.block_col) 0
 unfolding start_number skip_number
-asked c = (buffers-before _ _ _).accepts c.before.buffers-number.ensures c.if1.false _
+asked c = (buffers-before _ _ _).accepts c.buffers_number-number.ensures c.if-number-ne0.false _
 
-buffers-number-requires : tie.Need-buffers-number-requires
+buffers-number-requires : tie.Need-buffers_number-number-requires
 buffers-number-requires c κs = search rules
 
-returns : tie.Need-returns
+returns : tie.Need-returns-then-number-ne0
 unfolding start_number skip_number
-returns c = (buffers-before _ _ _).refuses c.before.buffers-number.ensures c.if1.true _
+returns c = (buffers-before _ _ _).refuses c.buffers_number-number.ensures c.if-number-ne0.true _
 
-has-block-requires : tie.Need-has-block-requires
+has-block-requires : tie.Need-has_block-requires
 has-block-requires c κs = search rules
 
-returns-2 : tie.Need-returns-2
-returns-2 c = rw (asked c.before.before, no c.before.has_block.ensures c.if2.true)
+returns-2 : tie.Need-returns-then-not-has_block
+returns-2 c = rw (asked c.before.before, no c.has_block.ensures c.if-not-has_block.true)
 
-returns-3 : tie.Need-returns-3
-returns-3 c = rw (asked c.before.before, yes c.before.has_block.ensures c.if2.false)
+returns-3 : tie.Need-returns
+returns-3 c = rw (asked c.before.before, yes c.has_block.ensures c.if-not-has_block.false)
 
 pub block_number_spec : {M : Type 1} → statement M
 block_number_spec = tie.close (tie.spec buffers-number-requires returns has-block-requires returns-2 returns-3)

@@ -14,53 +14,53 @@ use Rattle.writing.proofs.check.buffers_number.Statement.{statement}
 use Rattle.writing.proofs.check.buffers_number.Tie as tie
 
 -- past question 4
-accepted : (c : tie.Else1) → Accepted c.before.before.args.grid
-accepted c = sym c.before.check.ensures ∙ c.if1.false
+accepted : (c : tie.Else-number-ne0) → Accepted c.args.grid
+accepted c = sym c.check-number.ensures ∙ c.if-number-ne0.false
 
 -- the function's start
-abbrev start : tie.Else2 → tie.Start
+abbrev start : tie.Else-not-fits_in → tie.Start
 start c = c.before.before.before.before
 
 -- and past question 11
-holds : (c : tie.Else2) → let a = (start c).args in q11 a.grid a.image ≡ true
-holds c = yes c.before.fits_in.ensures c.if2.false
+holds : (c : tie.Else-not-fits_in) → let a = (start c).args in q11 a.grid a.image ≡ true
+holds c = yes c.fits_in.ensures c.if-not-fits_in.false
 
-check-requires : tie.Need-check-requires
+check-requires : tie.Need-check-number-requires
 check-requires c κs = search rules
 
-returns : tie.Need-returns
+returns : tie.Need-returns-then-number-ne0
 unfolding grid_number start_number
-returns c = (grid-before _).refuses c.before.check.ensures c.if1.true _
+returns c = (grid-before _).refuses c.check-number.ensures c.if-number-ne0.true _
 
-fits-in-requires : tie.Need-fits-in-requires
+fits-in-requires : tie.Need-fits_in-requires
 fits-in-requires c κs = search rules
 
-returns-2 : tie.Need-returns-2
+returns-2 : tie.Need-returns-then-not-fits_in
 unfolding start_number
-returns-2 c = rw (grid-yes _ _ (accepted c.before.before), no c.before.fits_in.ensures c.if2.true)
+returns-2 c = rw (grid-yes _ _ (accepted c.before.before), no c.fits_in.ensures c.if-not-fits_in.true)
 
 blocks-requires : tie.Need-blocks-requires
 blocks-requires c κs = search rules
 
-has-words-requires : tie.Need-has-words-requires
-has-words-requires c κs = rw c.blocks2.ensures (omega (arith, (facts _ (accepted c.before.before.before)).blocks-le))
+has-words-requires : tie.Need-has_words-requires
+has-words-requires c κs = rw c.blocks-2.ensures (omega (arith, (facts _ (accepted c.before.before.before)).blocks-le))
 
 -- question 12, as the code asks it
-words_are : (c : tie.After-has-words)
+words_are : (c : tie.After-has_words)
     → let a = (start c.before.before).args in c.has_words.result ≡ q12 (blocks a.grid) a.words
-words_are c = rw c.before.blocks2.ensures at c.has_words.ensures
+words_are c = rw c.blocks-2.ensures at c.has_words.ensures
 
-returns-3 : tie.Need-returns-3
+returns-3 : tie.Need-returns-then-not-has_words
 unfolding start_number
 returns-3 c =
     let e = c.before.before.before in
-    rw (grid-yes _ _ (accepted e.before.before), holds e, no (words_are c.before) c.if3.true)
+    rw (grid-yes _ _ (accepted e.before.before), holds e, no (words_are c.before) c.if-not-has_words.true)
 
-returns-4 : tie.Need-returns-4
+returns-4 : tie.Need-returns
 unfolding start_number
 returns-4 c =
     let e = c.before.before.before in
-    rw (grid-yes _ _ (accepted e.before.before), holds e, yes (words_are c.before) c.if3.false)
+    rw (grid-yes _ _ (accepted e.before.before), holds e, yes (words_are c.before) c.if-not-has_words.false)
 
 pub buffers_number_spec : {M : Type 1} → statement M
 buffers_number_spec =

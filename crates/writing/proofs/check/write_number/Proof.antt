@@ -23,141 +23,141 @@ use Rattle.writing.proofs.check.write_number.Statement.{statement}
 use Rattle.writing.proofs.check.write_number.Tie as tie
 
 -- where question 6 is passed, and the function's start
-abbrev past-6 : tie.Else3 → tie.Else1
+abbrev past-6 : tie.Else-rows-actual_rows → tie.Else-number-ne0
 past-6 c = c.before.before.before.before
 
-abbrev start : tie.Else3 → tie.Start
+abbrev start : tie.Else-rows-actual_rows → tie.Start
 start c = (past-6 c).before.before.before
 
 -- past question 6
-enough : (c : tie.Else1)
-    → let a = c.before.before.before.args in Enough a.grid a.image a.words × Block a.grid a.block_row a.block-col
-enough c = skip-facts _ _ _ _ _ (sym c.before.block-number.ensures ∙ c.if1.false)
+enough : (c : tie.Else-number-ne0)
+    → let a = c.args in Enough a.grid a.image a.words × Block a.grid a.block_row a.block_col
+enough c = skip-facts _ _ _ _ _ (sym c.block_number-number.ensures ∙ c.if-number-ne0.false)
 
-asked : (c : tie.Else1)
-    → let a = c.before.before.before.args in
+asked : (c : tie.Else-number-ne0)
+    → let a = c.args in
     let n = length a.«data».now in
     let fit = q26 a.grid a.«data».now in
-    write_number a.grid a.image a.words a.block_row a.block-col a.bands a.rows a.columns n fit
-    ≡ ask 13 (q13 a.grid a.block_row a.block-col a.bands a.rows a.columns) (ask 14 (q14 a.grid a.block_row a.block-col n) (ask 26 fit 0))
+    write_number a.grid a.image a.words a.block_row a.block_col a.bands a.rows a.columns n fit
+    ≡ ask 13 (q13 a.grid a.block_row a.block_col a.bands a.rows a.columns) (ask 14 (q14 a.grid a.block_row a.block_col n) (ask 26 fit 0))
 unfolding skip_number write_number
-asked c = (block-before _ _ _ _ _).accepts c.before.block-number.ensures c.if1.false _
+asked c = (block-before _ _ _ _ _).accepts c.block_number-number.ensures c.if-number-ne0.false _
 
 -- past question 13
-rows_in : (c : tie.Else3) → let d = c.before.before.before.before in let a = d.before.before.before.args in a.rows ≡ actual_rows a.grid a.block_row
-rows_in c = c.if3.false ∙ c.before.actual-rows.ensures
+rows_in : (c : tie.Else-rows-actual_rows) → let d = c in let a = d.args in a.rows ≡ actual_rows a.grid a.block_row
+rows_in c = c.if-rows-actual_rows.false ∙ c.actual_rows.ensures
 
-columns_in : (c : tie.Else4) → let d = c.before.before.before.before in let a = d.before.before.before.before.before.args in a.columns ≡ actual_columns a.grid a.block-col
-columns_in c = c.if4.false ∙ c.before.actual-columns.ensures
+columns_in : (c : tie.Else-columns-actual_columns) → let d = c in let a = d.args in a.columns ≡ actual_columns a.grid a.block_col
+columns_in c = c.if-columns-actual_columns.false ∙ c.actual_columns.ensures
 
-shaped : (c : tie.Else4)
+shaped : (c : tie.Else-columns-actual_columns)
     → let a = (start c.before.before).args in
-    q13 a.grid a.block_row a.block-col a.bands a.rows a.columns ≡ true
+    q13 a.grid a.block_row a.block_col a.bands a.rows a.columns ≡ true
 unfolding q13 every
 shaped c =
-    rw (eq-eqb _ _ c.before.before.before.before.if2.false, eq-eqb _ _ (rows_in c.before.before), eq-eqb _ _ (columns_in c))
+    rw (eq-eqb _ _ c.if-bands-grid.false, eq-eqb _ _ (rows_in c.before.before), eq-eqb _ _ (columns_in c))
 
 -- and no product wraps
-fits : (c : tie.Else4) → let a = (start c.before.before).args in DataFits (layout_of a.grid a.block_row a.block-col)
+fits : (c : tie.Else-columns-actual_columns) → let a = (start c.before.before).args in DataFits (layout_of a.grid a.block_row a.block_col)
 fits c = let k = enough (past-6 c.before.before) in data_fits _ (sound _ (facts _ k.0.accepted) _ _ k.1)
 
-block-number-requires : tie.Need-block-number-requires
+block-number-requires : tie.Need-block_number-number-requires
 block-number-requires c κs = search rules
 
-returns : tie.Need-returns
+returns : tie.Need-returns-then-number-ne0
 unfolding skip_number write_number
-returns c = (block-before _ _ _ _ _).refuses c.before.block-number.ensures c.if1.true _
+returns c = (block-before _ _ _ _ _).refuses c.block_number-number.ensures c.if-number-ne0.true _
 
-cast-if2 : tie.Need-overflow-cast-if2
+cast-if2 : tie.Need-overflow_cast-grid
 cast-if2 c = search rules
 
-returns-2 : tie.Need-returns-2
+returns-2 : tie.Need-returns-then-bands-grid
 unfolding q13 every
-returns-2 c = rw (asked c.before.before, ne_eqb _ _ c.if2.true)
+returns-2 c = rw (asked c.before.before, ne_eqb _ _ c.if-bands-grid.true)
 
-actual-rows-requires : tie.Need-actual-rows-requires
+actual-rows-requires : tie.Need-actual_rows-requires
 actual-rows-requires c κs = let k = enough c.before.before in (k.0.accepted, k.1.in_row)
 
-returns-3 : tie.Need-returns-3
+returns-3 : tie.Need-returns-then-rows-actual_rows
 unfolding q13 every
-returns-3 c = rw (asked c.before.before.before.before, eq-eqb _ _ c.before.before.if2.false, ne_eqb _ _ (rw c.before.actual-rows.ensures at c.if3.true))
+returns-3 c = rw (asked c.before.before.before.before, eq-eqb _ _ c.if-bands-grid.false, ne_eqb _ _ (rw c.actual_rows.ensures at c.if-rows-actual_rows.true))
 
-actual-columns-requires : tie.Need-actual-columns-requires
+actual-columns-requires : tie.Need-actual_columns-requires
 actual-columns-requires c κs = let k = enough c.before.before.before.before in (k.0.accepted, k.1.in_column)
 
-returns-4 : tie.Need-returns-4
+returns-4 : tie.Need-returns-then-columns-actual_columns
 unfolding q13 every
 returns-4 c =
     rw (
       asked (past-6 c.before.before),
-      eq-eqb _ _ c.before.before.before.before.if2.false,
+      eq-eqb _ _ c.if-bands-grid.false,
       eq-eqb _ _ (rows_in c.before.before),
-      ne_eqb _ _ (rw c.before.actual-columns.ensures at c.if4.true),
+      ne_eqb _ _ (rw c.actual_columns.ensures at c.if-columns-actual_columns.true),
     )
 
-sample-bytes-requires : tie.Need-sample-bytes-requires
+sample-bytes-requires : tie.Need-sample_bytes-size-requires
 sample-bytes-requires c κs = (enough (past-6 c.before.before)).0.accepted
 
-mul-if5 : tie.Need-overflow-mul-if5
+mul-if5 : tie.Need-overflow_mul-bands
 mul-if5 c =
     let k = c.before in
-    rw (k.before.before.before.before.if2.false, rows_in k.before.before) (record { fits = (fits k).bands-rows })
+    rw (k.if-bands-grid.false, rows_in k.before.before) (record { fits = (fits k).bands-rows })
 
-mul-if5-2 : tie.Need-overflow-mul-if5-2
+mul-if5-2 : tie.Need-overflow_mul-bands-2
 mul-if5-2 c =
     let k = c.before in
-    rw (k.before.before.before.before.if2.false, rows_in k.before.before, columns_in k) (record { fits = (fits k).samples })
+    rw (k.if-bands-grid.false, rows_in k.before.before, columns_in k) (record { fits = (fits k).samples })
 
-mul-if5-3 : tie.Need-overflow-mul-if5-3
+mul-if5-3 : tie.Need-overflow_mul-bands-3
 mul-if5-3 c =
     let k = c.before in
-    rw (k.before.before.before.before.if2.false, rows_in k.before.before, columns_in k, c.sample-bytes.ensures) (record { fits = (fits k).bytes })
+    rw (k.if-bands-grid.false, rows_in k.before.before, columns_in k, c.sample_bytes-size.ensures) (record { fits = (fits k).bytes })
 
-returns-5 : tie.Need-returns-5
+returns-5 : tie.Need-returns-then-data-bands
 unfolding q14
 returns-5 c =
     let k = c.before.before in
-    rw (asked (past-6 k.before.before), shaped k, ne_eqb _ _ (rw (k.before.before.before.before.if2.false, rows_in k.before.before, columns_in k, c.before.sample-bytes.ensures) at c.if5.true))
+    rw (asked (past-6 k.before.before), shaped k, ne_eqb _ _ (rw (k.if-bands-grid.false, rows_in k.before.before, columns_in k, c.sample_bytes-size.ensures) at c.if-data-bands.true))
 
 -- past question 14
-sized : (c : tie.Else5)
+sized : (c : tie.Else-data-bands)
     → let k = c.before.before in
-    let a = (start k.before.before).args in q14 a.grid a.block_row a.block-col (length a.«data».now) ≡ true
+    let a = (start k.before.before).args in q14 a.grid a.block_row a.block_col (length a.«data».now) ≡ true
 unfolding q14
 sized c =
     let k = c.before.before in
-    eq-eqb _ _ (rw (k.before.before.before.before.if2.false, rows_in k.before.before, columns_in k, c.before.sample-bytes.ensures) at c.if5.false)
+    eq-eqb _ _ (rw (k.if-bands-grid.false, rows_in k.before.before, columns_in k, c.sample_bytes-size.ensures) at c.if-data-bands.false)
 
 -- the bytes of a sample of n bits
 size_of : (n : ℕ) → 0 < n → n ≤ 64 → (0 < ceil_div n 8) × (ceil_div n 8 ≤ 8) × (8 * ceil_div n 8 < n + 8) × (n ≤ 8 * ceil_div n 8)
 size_of n h l = omega arith
 
-cast-all-fit : tie.Need-overflow-cast-all-fit
+cast-all-fit : tie.Need-overflow_cast-grid-2
 cast-all-fit c = search rules
 
-all-fit-requires : tie.Need-all-fit-requires
+all-fit-requires : tie.Need-all_fit-requires
 all-fit-requires c κs =
     let k = c.before.before.before in
     let f = facts _ (enough (past-6 k.before.before)).0.accepted in
-    rw c.before.before.sample-bytes.ensures (size_of _ f.sides.nbpp-pos f.sides.nbpp-le)
+    rw c.sample_bytes-size.ensures (size_of _ f.sides.nbpp-pos f.sides.nbpp-le)
 
 -- what the test of the samples says
-fit_is : (c : tie.After-all-fit)
+fit_is : (c : tie.After-all_fit)
     → let k = c.before.before.before.before in let a = (start k.before.before).args in c.all_fit.result ≡ q26 a.grid a.«data».now
 unfolding q26
-fit_is c = rw c.before.before.before.sample-bytes.ensures at c.all_fit.ensures
+fit_is c = rw c.sample_bytes-size.ensures at c.all_fit.ensures
 
-returns-6 : tie.Need-returns-6
+returns-6 : tie.Need-returns-then-not-all_fit
 returns-6 c =
     let d = c.before.before.before in
     let k = d.before.before in
-    rw (asked (past-6 k.before.before), shaped k, sized d, no (fit_is c.before) c.if6.true)
+    rw (asked (past-6 k.before.before), shaped k, sized d, no (fit_is c.before) c.if-not-all_fit.true)
 
-returns-7 : tie.Need-returns-7
+returns-7 : tie.Need-returns
 returns-7 c =
     let d = c.before.before.before in
     let k = d.before.before in
-    rw (asked (past-6 k.before.before), shaped k, sized d, yes (fit_is c.before) c.if6.false)
+    rw (asked (past-6 k.before.before), shaped k, sized d, yes (fit_is c.before) c.if-not-all_fit.false)
 
 pub write_number_spec : {M : Type 1} → statement M
 write_number_spec =
