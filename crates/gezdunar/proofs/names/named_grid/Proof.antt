@@ -7,10 +7,10 @@ use Rattle.gezdunar.proofs.Named.{named}
 use Rattle.gezdunar.proofs.names.named_grid.Statement.{statement}
 use Rattle.gezdunar.proofs.names.named_grid.Tie as tie
 
-returns : tie.Need-returns
+returns : tie.Need-returns-in-Rule
 unfolding named_grid
 returns c =
-    let h = ap Known c.grid-in.ensures in
+    let h = ap Known c.grid_in.ensures in
     search named
 
 pub named_grid_spec : {M : Type 1} → statement M

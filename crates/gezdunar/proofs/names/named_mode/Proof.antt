@@ -12,5 +12,5 @@ pub named_mode_spec : {M : Type 1} → statement M
 unfolding mode_of pick
 named_mode_spec =
     tie.close
-    (tie.spec (λ c. sym (ap mode_of c.if1.true)) (λ c. sym (ap mode_of c.if2.true))
-    (λ c. sym (ap mode_of c.if3.true)) (λ c. sym (ap mode_of c.if4.true)) (λ c. search (rules, no-letter)))
+    (tie.spec (λ c. sym (ap mode_of c.if-byte-eq66.true)) (λ c. sym (ap mode_of c.if-byte-eq80.true))
+    (λ c. sym (ap mode_of c.if-byte-eq82.true)) (λ c. sym (ap mode_of c.if-byte-eq83.true)) (λ c. search (rules, no-letter)))

@@ -12,5 +12,5 @@ pub named_rule_spec : {M : Type 1} → statement M
 unfolding rule_of pick
 named_rule_spec =
     tie.close
-    (tie.spec (λ c. sym (ap rule_of c.if1.true)) (λ c. sym (ap rule_of c.if2.true))
+    (tie.spec (λ c. sym (ap rule_of c.if-byte-eq84.true)) (λ c. sym (ap rule_of c.if-byte-eq70.true))
     (λ c. search (rules, no_rule_letter)))

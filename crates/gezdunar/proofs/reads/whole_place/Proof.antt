@@ -7,9 +7,9 @@ use Rattle.gezdunar.proofs.Places.{place-refused, place-known}
 use Rattle.gezdunar.proofs.reads.whole_place.Statement.{statement}
 use Rattle.gezdunar.proofs.reads.whole_place.Tie as tie
 
-whole-block-requires : tie.Need-whole-block-requires
+whole-block-requires : tie.Need-whole_block-block-requires
 whole-block-requires c κs =
-    let t = whole-facts _ _ _ _ (sym c.before.whole-number.ensures ∙ c.if1.false) in
+    let t = whole-facts _ _ _ _ (sym c.whole_number-number.ensures ∙ c.if-number-ne0.false) in
     (t.accepted, t.block)
 
 pub whole_place_spec : {M : Type 1} → statement M

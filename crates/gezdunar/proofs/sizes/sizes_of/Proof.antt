@@ -8,12 +8,12 @@ use Rattle.gezdunar.proofs.SizeLaws.{sizes-refused, sizes-known}
 use Rattle.gezdunar.proofs.sizes.sizes_of.Statement.{statement}
 use Rattle.gezdunar.proofs.sizes.sizes_of.Tie as tie
 
-mark-words-requires : tie.Need-mark-words-requires
+mark-words-requires : tie.Need-mark_words-requires
 mark-words-requires c κs =
     let counted = c.before.before.before.before in
-    let checked = counted.before in
-    let grid = facts _ (sym checked.before.check.ensures ∙ checked.if1.false) in
-    rw counted.blocks2.ensures (omega (arith, grid.blocks-le))
+    let checked = counted in
+    let grid = facts _ (sym checked.check-number.ensures ∙ checked.if-number-ne0.false) in
+    rw counted.blocks-blocks.ensures (omega (arith, grid.blocks-le))
 
 pub sizes_of_spec : {M : Type 1} → statement M
 sizes_of_spec =

@@ -13,21 +13,21 @@ use Rattle.gezdunar.proofs.subheaders.answer_of.Tie as tie
 abbrev accepted : SubheaderBytes → SubheaderAnswer
 accepted b = record { number = 0; subheader = b }
 
-no-bytes-requires : tie.Need-no-bytes-requires
+no-bytes-requires : tie.Need-no_bytes-requires
 no-bytes-requires c κs = search rules
 
-returns : tie.Need-returns
+returns : tie.Need-returns-then-read-ne0
 unfolding answer_of
 returns c =
-    c.no_bytes.ensures ∙ refused-by _ _ refl c.before.if1.true
+    c.no_bytes.ensures ∙ refused-by _ _ refl c.if-read-ne0.true
 
-bytes-of-requires : tie.Need-bytes-of-requires
+bytes-of-requires : tie.Need-bytes_of-requires
 bytes-of-requires c κs = search rules
 
-returns-2 : tie.Need-returns-2
+returns-2 : tie.Need-returns
 unfolding answer_of
 returns-2 c =
-    ap accepted c.bytes_of.ensures ∙ sym (outcome-yes _ _ c.before.if1.false)
+    ap accepted c.bytes_of.ensures ∙ sym (outcome-yes _ _ c.if-read-ne0.false)
 
 pub answer_of_spec : {M : Type 1} → statement M
 answer_of_spec =

@@ -4,23 +4,23 @@ use borrow.Author.Rules.{rules}
 use Rattle.gezdunar.proofs.subheaders.bytes_of.Statement.{statement}
 use Rattle.gezdunar.proofs.subheaders.bytes_of.Tie as tie
 
-to-bytes-requires : tie.Need-to-bytes-requires
+to-bytes-requires : tie.Need-to_bytes-pjust-requires
 to-bytes-requires c κs = search rules
 
-to-bytes-requires-2 : tie.Need-to-bytes-requires-2
+to-bytes-requires-2 : tie.Need-to_bytes-requires
 to-bytes-requires-2 c κs = search rules
 
-array-read-t12 : tie.Need-array-read-t12
+array-read-t12 : tie.Need-bounds-pjust-0
 array-read-t12 c = search rules
 
-to-bytes-requires-3 : tie.Need-to-bytes-requires-3
+to-bytes-requires-3 : tie.Need-to_bytes-requires-2
 to-bytes-requires-3 c κs = search rules
 
-numbers-in-requires : tie.Need-numbers-in-requires
+numbers-in-requires : tie.Need-numbers_in-requires
 numbers-in-requires c κs = search rules
 
 returns : tie.Need-returns
-returns c = rw (c.before.before.to-bytes2.ensures, c.before.before.before.to-bytes.ensures, c.before.to-bytes3.ensures, c.numbers-in.ensures)
+returns c = rw (c.to_bytes.ensures, c.to_bytes-pjust.ensures, c.to_bytes-2.ensures, c.numbers_in.ensures)
 
 pub bytes_of_spec : {M : Type 1} → statement M
 bytes_of_spec =

@@ -6,9 +6,9 @@ use Rattle.gezdunar.proofs.Named.{named}
 use Rattle.gezdunar.proofs.subheaders.gezdunar_subheader_read.Statement.{statement}
 use Rattle.gezdunar.proofs.subheaders.gezdunar_subheader_read.Tie as tie
 
-returns : tie.Need-returns
+returns : tie.Need-returns-in-Rule
 returns c =
-    let h = c.answer-of.ensures ∙ ap answer_of c.before.read.ensures in
+    let h = c.answer_of.ensures ∙ ap answer_of c.read.ensures in
     search named
 
 pub gezdunar_subheader_read_spec : {M : Type 1} → statement M

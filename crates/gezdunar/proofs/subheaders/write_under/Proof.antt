@@ -8,35 +8,35 @@ use Rattle.gezdunar.specs.Subheaders.{write_under}
 use Rattle.gezdunar.proofs.subheaders.write_under.Statement.{statement}
 use Rattle.gezdunar.proofs.subheaders.write_under.Tie as tie
 
-are-named-requires : tie.Need-are-named-requires
+are-named-requires : tie.Need-are_named-requires
 are-named-requires c κs = search rules
 
-returns : tie.Need-returns
+returns : tie.Need-returns-then-not-are_named
 unfolding write_under
-returns c = sym (pick_no _ _ (no c.before.are-named.ensures c.if1.true))
+returns c = sym (pick_no _ _ (no c.are_named.ensures c.if-not-are_named.true))
 
-fields-of-requires : tie.Need-fields-of-requires
+fields-of-requires : tie.Need-fields_of-requires
 fields-of-requires c κs = search rules
 
 write-requires : tie.Need-write-requires
 write-requires c κs = search rules
 
-same_length : tie.Need-same-length
+same_length : tie.Need-shape_of-first
 same_length c = search rules
 
-same-length-2 : tie.Need-same-length-2
+same-length-2 : tie.Need-shape_of-second
 same-length-2 c = search rules
 
-same-length-3 : tie.Need-same-length-3
+same-length-3 : tie.Need-shape_of-third
 same-length-3 c = search rules
 
-returns-2 : tie.Need-returns-2
+returns-2 : tie.Need-returns
 unfolding write_under
 returns-2 c =
     let write = c.before.before.before.before.before.before in
     let fields = write.before.before.before.before in
-    let named = fields.before in
-    write.write.ensures ∙ rw fields.fields-of.ensures (sym (pick_yes _ _ (yes named.before.are-named.ensures named.if1.false)))
+    let named = fields in
+    write.write.ensures ∙ rw fields.fields_of.ensures (sym (pick_yes _ _ (yes named.are_named.ensures named.if-not-are_named.false)))
 
 pub write_under_spec : {M : Type 1} → statement M
 write_under_spec =

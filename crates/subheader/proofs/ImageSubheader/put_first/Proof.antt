@@ -9,27 +9,27 @@ use Rattle.subheader.specs.Subheader.{kind_entries, used_bits_entries}
 use Rattle.subheader.proofs.ImageSubheader.put_first.Statement.{statement}
 use Rattle.subheader.proofs.ImageSubheader.put_first.Tie as tie
 
-put-sides-requires : tie.Need-put-sides-requires
+put-sides-requires : tie.Need-put_sides-requires
 put-sides-requires c κs = search rules
 
-put-kind-requires : tie.Need-put-kind-requires
+put-kind-requires : tie.Need-put_kind-requires
 put-kind-requires c κs = search rules
 
-put-used-bits-requires : tie.Need-put-used-bits-requires
+put-used-bits-requires : tie.Need-put_used_bits-requires
 put-used-bits-requires c κs = search rules
 
-same_length : tie.Need-same-length
+same_length : tie.Need-shape_of-part
 same_length c = search rules
 
 returns : tie.Need-returns
 returns c =
     let bits = c.before.before in
     let kind = bits.before.before.before.before in
-    let sides = kind.before.before.before.before in
-    let s = sides.before.before.before.args.self in
-    bits.put-used-bits.ensures
+    let sides = kind in
+    let s = sides.args.self in
+    bits.put_used_bits.ensures
     ∙ ap (λ (d : List ℕ). put_all d (used_bits_entries s))
-    (kind.put-kind.ensures ∙ ap (λ (d : List ℕ). put_all d (kind_entries s)) sides.put_sides.ensures)
+    (kind.put_kind.ensures ∙ ap (λ (d : List ℕ). put_all d (kind_entries s)) sides.put_sides.ensures)
 
 pub put_first_spec : {M : Type 1} → statement M
 put_first_spec =

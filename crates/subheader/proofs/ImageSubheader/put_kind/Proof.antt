@@ -10,32 +10,32 @@ use Rattle.fields.specs.Fields.{put, text, PVTYPE, IREP, ICAT}
 use Rattle.subheader.proofs.ImageSubheader.put_kind.Statement.{statement}
 use Rattle.subheader.proofs.ImageSubheader.put_kind.Tie as tie
 
-to-bytes-requires : tie.Need-to-bytes-requires
+to-bytes-requires : tie.Need-to_bytes-pvtype-requires
 to-bytes-requires c κs = search rules
 
-slice-aggregate-put-text : tie.Need-slice-aggregate-put-text
+slice-aggregate-put-text : tie.Need-slice_bounds-put_text-end
 slice-aggregate-put-text c = search rules
 
-put-text-requires : tie.Need-put-text-requires
+put-text-requires : tie.Need-put_text-requires
 put-text-requires c κs = search rules
 
-slice-aggregate-put-text-2 : tie.Need-slice-aggregate-put-text-2
+slice-aggregate-put-text-2 : tie.Need-slice_bounds-put_text-end-2
 slice-aggregate-put-text-2 c = search rules
 
-put-text-requires-2 : tie.Need-put-text-requires-2
+put-text-requires-2 : tie.Need-put_text-requires-2
 put-text-requires-2 c κs =
-    let e : length c.before.before.before.before.before.before.before.before.before.before.before.args.self.irep ≡ 8 = search rules in
+    let e : length c.args.self.irep ≡ 8 = search rules in
     omega (arith, e)
 
-slice-aggregate-put-text-3 : tie.Need-slice-aggregate-put-text-3
+slice-aggregate-put-text-3 : tie.Need-slice_bounds-put_text-end-3
 slice-aggregate-put-text-3 c = search rules
 
-put-text-requires-3 : tie.Need-put-text-requires-3
+put-text-requires-3 : tie.Need-put_text-requires-3
 put-text-requires-3 c κs =
-    let e : length c.before.before.before.before.before.before.before.before.before.before.before.before.before.before.before.before.args.self.icat ≡ 8 = search rules in
+    let e : length c.args.self.icat ≡ 8 = search rules in
     omega (arith, e)
 
-same_length : tie.Need-same-length
+same_length : tie.Need-shape_of-part
 same_length c = search rules
 
 returns : tie.Need-returns
@@ -43,13 +43,13 @@ returns c =
     let icat = c.before.before in
     let irep = icat.before.before.before.before.before in
     let pvtype = irep.before.before.before.before.before in
-    let bytes = pvtype.before.before.before.before.before in
-    let a = bytes.before.before.args in
-    icat.put-text3.ensures
+    let bytes = pvtype in
+    let a = bytes.args in
+    icat.put_text-3.ensures
     ∙ ap (λ (d : List ℕ). put d (text ICAT a.self.icat))
-    (irep.put-text2.ensures
+    (irep.put_text-2.ensures
     ∙ ap (λ (d : List ℕ). put d (text IREP a.self.irep))
-    (pvtype.put-text.ensures ∙ ap (λ (t : List ℕ). put a.part.now (text PVTYPE t)) bytes.to-bytes.ensures))
+    (pvtype.put_text.ensures ∙ ap (λ (t : List ℕ). put a.part.now (text PVTYPE t)) bytes.to_bytes-pvtype.ensures))
 
 pub put_kind_spec : {M : Type 1} → statement M
 put_kind_spec =

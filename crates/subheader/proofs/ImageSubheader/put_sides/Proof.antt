@@ -8,21 +8,21 @@ use Rattle.fields.specs.Fields.{put, number, NCOLS}
 use Rattle.subheader.proofs.ImageSubheader.put_sides.Statement.{statement}
 use Rattle.subheader.proofs.ImageSubheader.put_sides.Tie as tie
 
-put-number-requires : tie.Need-put-number-requires
+put-number-requires : tie.Need-put_number-requires
 put-number-requires c κs = search rules
 
-put-number-requires-2 : tie.Need-put-number-requires-2
+put-number-requires-2 : tie.Need-put_number-requires-2
 put-number-requires-2 c κs = search rules
 
-same_length : tie.Need-same-length
+same_length : tie.Need-shape_of-part
 same_length c = search rules
 
 returns : tie.Need-returns
 returns c =
     let ncols = c.before.before in
-    let nrows = ncols.before.before.before.before in
-    let s = nrows.before.before.before.args.self in
-    ncols.put-number2.ensures ∙ ap (λ (d : List ℕ). put d (number NCOLS s.grid.ncols)) nrows.put-number.ensures
+    let nrows = ncols in
+    let s = nrows.args.self in
+    ncols.put_number-2.ensures ∙ ap (λ (d : List ℕ). put d (number NCOLS s.grid.ncols)) nrows.put_number.ensures
 
 pub put_sides_spec : {M : Type 1} → statement M
 put_sides_spec = tie.close (tie.spec put-number-requires put-number-requires-2 same_length returns)

@@ -15,21 +15,21 @@ returns c =
     let nppbh = nppbv.before.before.before.before.before in
     let nbpc = nppbh.before.before.before.before.before in
     let nbpr = nbpc.before.before.before.before in
-    let imode = nbpr.before.before.before.before in
-    let g = imode.before.before.before.before.before.before.args.self.grid in
-    nbpp.put-number5.ensures
+    let imode = nbpr in
+    let g = imode.args.self.grid in
+    nbpp.put_number-5.ensures
     ∙ ap (λ (d : List ℕ). put d (number NBPP g.nbpp))
-    (nppbv.put-number4.ensures
+    (nppbv.put_number-4.ensures
     ∙ ap₂ (λ (d : List ℕ) (n : ℕ). put d (number NPPBV n))
-    (nppbh.put-number3.ensures
+    (nppbh.put_number-3.ensures
     ∙ ap₂ (λ (d : List ℕ) (n : ℕ). put d (number NPPBH n))
-    (nbpc.put-number2.ensures
+    (nbpc.put_number-2.ensures
     ∙ ap (λ (d : List ℕ). put d (number NBPC g.nbpc))
-    (nbpr.put-number.ensures
+    (nbpr.put_number.ensures
     ∙ ap (λ (d : List ℕ). put d (number NBPR g.nbpr))
-    (imode.put-text.ensures ∙ ap (λ (t : List ℕ). put imode.before.before.before.before.before.before.args.part.now (text IMODE t)) imode.before.before.before.mode-to-bytes.ensures)))
-    nppbh.before.written-side.ensures)
-    nppbv.before.written-side2.ensures)
+    (imode.put_text.ensures ∙ ap (λ (t : List ℕ). put imode.args.part.now (text IMODE t)) imode.mode_to_bytes-imode.ensures)))
+    nppbh.written_side.ensures)
+    nppbv.written_side-2.ensures)
 
 pub put_third_spec : {M : Type 1} → statement M
 put_third_spec =

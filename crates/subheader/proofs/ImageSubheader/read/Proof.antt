@@ -14,69 +14,69 @@ use Rattle.subheader.proofs.ImageSubheader.read.Statement.{statement}
 use Rattle.subheader.proofs.ImageSubheader.read.Tie as tie
 
 -- question 23 said yes
-parts : (c : tie.Else1)
-    → let a = c.before.before.before.before.before.args in
+parts : (c : tie.Else-not-are_parts)
+    → let a = c.args in
     q23 a.first.now a.second.now a.third.now ≡ true
-parts c = yes c.before.are-parts.ensures c.if1.false
+parts c = yes c.are_parts.ensures c.if-not-are_parts.false
 
 -- and question 24
-named : (c : tie.Else2)
-    → let a = c.before.before.before.before.before.before.before.args in
+named : (c : tie.Else-not-are_named)
+    → let a = c.args in
     q24 a.first.now a.second.now a.third.now ≡ true
-named c = yes c.before.are-named.ensures c.if2.false
+named c = yes c.are_named.ensures c.if-not-are_named.false
 
 -- so the grid's questions decide
-number_is : (c : tie.After-check)
-    → let a = c.before.before.before.before.before.before.before.before.before.args in
-    c.check.result ≡ read_number a.first.now a.second.now a.third.now a.bands a.edges
+number_is : (c : tie.After-check-number)
+    → let a = c.args in
+    c.check-number.result ≡ read_number a.first.now a.second.now a.third.now a.bands a.edges
 unfolding read_number grid_number
 number_is c =
-    let second = c.before.before in
-    c.check.ensures ∙ ap (λ (s : ImageSubheader). grid_number s.grid) c.before.fields_in.ensures
+    let second = c.before.before.before in
+    c.check-number.ensures ∙ ap (λ (s : ImageSubheader). grid_number s.grid) c.fields_in-subheader.ensures
     ∙ sym (ask-yes 23 _ (parts second.before.before) ∙ ask-yes 24 _ (named second))
 
-are-parts-requires : tie.Need-are-parts-requires
+are-parts-requires : tie.Need-are_parts-requires
 are-parts-requires c κs = search rules
 
 refused-requires : tie.Need-refused-requires
 refused-requires c κs = search rules
 
-returns : tie.Need-returns
+returns : tie.Need-returns-then-not-are_parts
 unfolding read_subheader read_number
 returns c =
-    let n = ask-no 23 _ (no c.before.before.are-parts.ensures c.before.if1.true) in
+    let n = ask-no 23 _ (no c.are_parts.ensures c.if-not-are_parts.true) in
     c.refused.ensures ∙ refused-by _ _ (sym n) (λ z. absurd (omega arith))
 
-are-named-requires : tie.Need-are-named-requires
+are-named-requires : tie.Need-are_named-requires
 are-named-requires c κs = fit _ _ _ (parts c)
 
-refused-requires-2 : tie.Need-refused-requires-2
+refused-requires-2 : tie.Need-refused-requires-then-not-are_named
 refused-requires-2 c κs = search rules
 
-returns-2 : tie.Need-returns-2
+returns-2 : tie.Need-returns-then-not-are_named
 unfolding read_subheader read_number
 returns-2 c =
-    let n = ask-yes 23 _ (parts c.before.before.before) ∙ ask-no 24 _ (no c.before.before.are-named.ensures c.before.if2.true) in
-    c.refused2.ensures ∙ refused-by _ _ (sym n) (λ z. absurd (omega arith))
+    let n = ask-yes 23 _ (parts c.before.before.before) ∙ ask-no 24 _ (no c.are_named.ensures c.if-not-are_named.true) in
+    c.refused-then-not-are_named.ensures ∙ refused-by _ _ (sym n) (λ z. absurd (omega arith))
 
-fields-in-requires : tie.Need-fields-in-requires
+fields-in-requires : tie.Need-fields_in-subheader-requires
 fields-in-requires c κs = parts c.before.before
 
-check-requires : tie.Need-check-requires
+check-requires : tie.Need-check-number-requires
 check-requires c κs = search rules
 
-refused-requires-3 : tie.Need-refused-requires-3
+refused-requires-3 : tie.Need-refused-requires-then-number-ne0
 refused-requires-3 c κs = search rules
 
-returns-3 : tie.Need-returns-3
+returns-3 : tie.Need-returns-then-number-ne0
 unfolding read_subheader
-returns-3 c = c.refused3.ensures ∙ refused-by _ _ (number_is c.before.before) c.before.if3.true
+returns-3 c = c.refused-then-number-ne0.ensures ∙ refused-by _ _ (number_is c.before.before) c.if-number-ne0.true
 
-returns-4 : tie.Need-returns-4
+returns-4 : tie.Need-returns
 unfolding read_subheader
 returns-4 c =
-    ap (read_as 0) c.before.before.fields_in.ensures
-    ∙ sym (outcome-yes _ _ (sym (number_is c.before) ∙ c.if3.false))
+    ap (read_as 0) c.fields_in-subheader.ensures
+    ∙ sym (outcome-yes _ _ (sym (number_is c.before) ∙ c.if-number-ne0.false))
 
 pub read_spec : {M : Type 1} → statement M
 read_spec =

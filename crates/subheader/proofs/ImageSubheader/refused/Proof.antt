@@ -10,7 +10,7 @@ none-requires : tie.Need-none-requires
 none-requires c κs = search rules
 
 returns : tie.Need-returns
-returns c = ap (read_as c.before.args.number) c.none.ensures
+returns c = ap (read_as c.args.number) c.none.ensures
 
 pub refused_spec : {M : Type 1} → statement M
 refused_spec = tie.close (tie.spec none-requires returns)

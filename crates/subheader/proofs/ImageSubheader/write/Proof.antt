@@ -11,43 +11,43 @@ use Rattle.subheader.proofs.ImageSubheader.write.Statement.{statement}
 use Rattle.subheader.proofs.ImageSubheader.write.Tie as tie
 
 -- the questions said yes
-accepted : (c : tie.Else1)
-    → let a = c.before.before.before.before.before.args in
+accepted : (c : tie.Else-number-ne0)
+    → let a = c.args in
     write_number a.self (length a.first.now) (length a.second.now) (length a.third.now) ≡ 0
-accepted c = sym c.before.write-number.ensures ∙ c.if1.false
+accepted c = sym c.write_number-number.ensures ∙ c.if-number-ne0.false
 
-write-number-requires : tie.Need-write-number-requires
+write-number-requires : tie.Need-write_number-number-requires
 write-number-requires c κs = search rules
 
-returns : tie.Need-returns
+returns : tie.Need-returns-then-number-ne0
 unfolding write_subheader
-returns c = refused-by _ _ c.before.write-number.ensures c.if1.true
+returns c = refused-by _ _ c.write_number-number.ensures c.if-number-ne0.true
 
-put-first-requires : tie.Need-put-first-requires
+put-first-requires : tie.Need-put_first-requires
 put-first-requires c κs = omega (arith, (held _ _ _ _ (accepted c.before)).first)
 
-put-second-requires : tie.Need-put-second-requires
+put-second-requires : tie.Need-put_second-requires
 put-second-requires c κs = omega (arith, (held _ _ _ _ (accepted c.before.before.before.before.before)).second)
 
-put-third-requires : tie.Need-put-third-requires
+put-third-requires : tie.Need-put_third-requires
 put-third-requires c κs = omega (arith, (held _ _ _ _ (accepted c.before.before.before.before.before.before.before.before.before)).third)
 
-same_length : tie.Need-same-length
+same_length : tie.Need-shape_of-first
 same_length c = search rules
 
-same-length-2 : tie.Need-same-length-2
+same-length-2 : tie.Need-shape_of-second
 same-length-2 c = search rules
 
-same-length-3 : tie.Need-same-length-3
+same-length-3 : tie.Need-shape_of-third
 same-length-3 c = search rules
 
-returns-2 : tie.Need-returns-2
+returns-2 : tie.Need-returns
 unfolding write_subheader
 returns-2 c =
     let third = c.before.before in
     let second = third.before.before.before.before in
     let first = second.before.before.before.before in
-    rw (first.put_first.ensures, second.put_second.ensures, third.put-third.ensures)
+    rw (first.put_first.ensures, second.put_second.ensures, third.put_third.ensures)
     (sym (outcome-yes _ _ (accepted first.before.before)))
 
 pub write_spec : {M : Type 1} → statement M

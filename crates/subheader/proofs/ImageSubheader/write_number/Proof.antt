@@ -11,33 +11,33 @@ use Rattle.subheader.specs.Subheader.{q24_write, write_number}
 use Rattle.subheader.proofs.ImageSubheader.write_number.Statement.{statement}
 use Rattle.subheader.proofs.ImageSubheader.write_number.Tie as tie
 
-returns : tie.Need-returns
+returns : tie.Need-returns-then-self-gt-MAX_ABPP
 unfolding write_number q24_write
-returns c = simp (lt-leb _ _ c.if1.true)
+returns c = simp (lt-leb _ _ c.if-self-gt-MAX_ABPP.true)
 
-check-requires : tie.Need-check-requires
+check-requires : tie.Need-check-number-requires
 check-requires c κs = search rules
 
-returns-2 : tie.Need-returns-2
+returns-2 : tie.Need-returns-then-number-ne0
 unfolding write_number q24_write grid_number
-returns-2 c = simp (le-leb _ _ c.before.before.if1.false) ((grid-before _).refuses c.before.check.ensures c.if2.true _)
+returns-2 c = simp (le-leb _ _ c.if-self-gt-MAX_ABPP.false) ((grid-before _).refuses c.check-number.ensures c.if-number-ne0.true _)
 
-parts-hold-requires : tie.Need-parts-hold-requires
+parts-hold-requires : tie.Need-parts_hold-requires
 parts-hold-requires c κs = search rules
 
-returns-3 : tie.Need-returns-3
+returns-3 : tie.Need-returns-then-not-parts_hold
 unfolding write_number q24_write grid_number
 returns-3 c =
-    let grid = c.before.before in
-    simp (le-leb _ _ grid.before.before.if1.false)
-    (sym ((grid-before _).accepts grid.before.check.ensures grid.if2.false _ ∙ ask-no 9 _ (no c.before.parts-hold.ensures c.if3.true)))
+    let grid = c in
+    simp (le-leb _ _ grid.if-self-gt-MAX_ABPP.false)
+    (sym ((grid-before _).accepts grid.check-number.ensures grid.if-number-ne0.false _ ∙ ask-no 9 _ (no c.parts_hold.ensures c.if-not-parts_hold.true)))
 
-returns-4 : tie.Need-returns-4
+returns-4 : tie.Need-returns
 unfolding write_number q24_write grid_number
 returns-4 c =
-    let grid = c.before.before in
-    simp (le-leb _ _ grid.before.before.if1.false)
-    (sym ((grid-before _).accepts grid.before.check.ensures grid.if2.false _ ∙ ask-yes 9 _ (yes c.before.parts-hold.ensures c.if3.false)))
+    let grid = c in
+    simp (le-leb _ _ grid.if-self-gt-MAX_ABPP.false)
+    (sym ((grid-before _).accepts grid.check-number.ensures grid.if-number-ne0.false _ ∙ ask-yes 9 _ (yes c.parts_hold.ensures c.if-not-parts_hold.false)))
 
 pub write_number_spec : {M : Type 1} → statement M
 write_number_spec =

@@ -15,82 +15,82 @@ use Rattle.subheader.proofs.read.are_named.Statement.{statement}
 use Rattle.subheader.proofs.read.are_named.Tie as tie
 
 -- what each test tells
-pvtype : (c : tie.After-is-named)
-    → let a = c.before.before.before.before.before.args in
-    c.is-named.result ≡ is_named pvtype_text pvtypes (bytes_in a.first.now PVTYPE)
-pvtype c = c.is-named.ensures ∙ ap (is_named pvtype_text pvtypes) c.before.bytes-in.ensures
+pvtype : (c : tie.After-is_named)
+    → let a = c.args in
+    c.is_named.result ≡ is_named pvtype_text pvtypes (bytes_in a.first.now PVTYPE)
+pvtype c = c.is_named.ensures ∙ ap (is_named pvtype_text pvtypes) c.bytes_in.ensures
 
-pjust : (c : tie.After-is-named2)
-    → let a = c.before.before.before.before.before.before.before.before.args in
-    c.is-named2.result ≡ is_named pjust_text pjusts (bytes_in a.first.now PJUST)
-pjust c = c.is-named2.ensures ∙ ap (is_named pjust_text pjusts) c.before.bytes-in2.ensures
+pjust : (c : tie.After-is_named-2)
+    → let a = c.args in
+    c.is_named-2.result ≡ is_named pjust_text pjusts (bytes_in a.first.now PJUST)
+pjust c = c.is_named-2.ensures ∙ ap (is_named pjust_text pjusts) c.bytes_in-2.ensures
 
-ic : (c : tie.After-is-named3)
-    → let a = c.before.before.before.before.before.before.before.before.before.before.before.args in
-    c.is-named3.result ≡ is_named ic_text ics (bytes_in a.second.now IC)
-ic c = c.is-named3.ensures ∙ ap (is_named ic_text ics) c.before.bytes-in3.ensures
+ic : (c : tie.After-is_named-3)
+    → let a = c.args in
+    c.is_named-3.result ≡ is_named ic_text ics (bytes_in a.second.now IC)
+ic c = c.is_named-3.ensures ∙ ap (is_named ic_text ics) c.bytes_in-3.ensures
 
-imode : (c : tie.After-mode-is-named)
-    → let a = c.before.before.before.before.before.before.before.before.before.before.before.before.before.before.args in
-    c.mode-is-named.result ≡ is_named imode_text imodes (bytes_in a.third.now IMODE)
-imode c = c.mode-is-named.ensures ∙ ap (is_named imode_text imodes) c.before.bytes-in4.ensures
+imode : (c : tie.After-mode_is_named)
+    → let a = c.args in
+    c.mode_is_named.result ≡ is_named imode_text imodes (bytes_in a.third.now IMODE)
+imode c = c.mode_is_named.ensures ∙ ap (is_named imode_text imodes) c.bytes_in-4.ensures
 
 -- the lengths
 fits : (s : tie.Start) → Lengths (length s.args.first.now) (length s.args.second.now) (length s.args.third.now)
 fits s = lengths _ _ _ s.requires
 
-bytes-in-requires : tie.Need-bytes-in-requires
+bytes-in-requires : tie.Need-bytes_in-requires
 bytes-in-requires c κs = omega (arith, (fits c.before.before.before).first)
 
-is-named-requires : tie.Need-is-named-requires
+is-named-requires : tie.Need-is_named-requires
 is-named-requires c κs = search rules
 
-returns : tie.Need-returns
+returns : tie.Need-returns-then-not-is_named
 unfolding q24 every
-returns c = simp (no (pvtype c.before) c.if1.true)
+returns c = simp (no (pvtype c.before) c.if-not-is_named.true)
 
-bytes-in-requires-2 : tie.Need-bytes-in-requires-2
+bytes-in-requires-2 : tie.Need-bytes_in-requires-2
 bytes-in-requires-2 c κs = omega (arith, (fits c.before.before.before.before.before.before).first)
 
-is-named-requires-2 : tie.Need-is-named-requires-2
+is-named-requires-2 : tie.Need-is_named-requires-2
 is-named-requires-2 c κs = search rules
 
-returns-2 : tie.Need-returns-2
+returns-2 : tie.Need-returns-then-not-is_named-2
 unfolding q24 every
 returns-2 c =
     simp (
-      yes (pvtype c.before.before.before.before) c.before.before.before.if1.false,
-      no (pjust c.before) c.if2.true,
+      yes (pvtype c.before.before.before.before) c.if-not-is_named.false,
+      no (pjust c.before) c.if-not-is_named-2.true,
     )
 
-bytes-in-requires-3 : tie.Need-bytes-in-requires-3
+bytes-in-requires-3 : tie.Need-bytes_in-requires-3
 bytes-in-requires-3 c κs = omega (arith, (fits c.before.before.before.before.before.before.before.before.before).second)
 
-is-named-requires-3 : tie.Need-is-named-requires-3
+is-named-requires-3 : tie.Need-is_named-requires-3
 is-named-requires-3 c κs = search rules
 
-returns-3 : tie.Need-returns-3
+returns-3 : tie.Need-returns-then-not-is_named-3
 unfolding q24 every
 returns-3 c =
     simp (
-      yes (pvtype c.before.before.before.before.before.before.before) c.before.before.before.before.before.before.if1.false,
-      yes (pjust c.before.before.before.before) c.before.before.before.if2.false,
-      no (ic c.before) c.if3.true,
+      yes (pvtype c.before.before.before.before.before.before.before) c.if-not-is_named.false,
+      yes (pjust c.before.before.before.before) c.if-not-is_named-2.false,
+      no (ic c.before) c.if-not-is_named-3.true,
     )
 
-bytes-in-requires-4 : tie.Need-bytes-in-requires-4
+bytes-in-requires-4 : tie.Need-bytes_in-requires-4
 bytes-in-requires-4 c κs = omega (arith, (fits c.before.before.before.before.before.before.before.before.before.before.before.before).third)
 
-mode-is-named-requires : tie.Need-mode-is-named-requires
+mode-is-named-requires : tie.Need-mode_is_named-requires
 mode-is-named-requires c κs = search rules
 
-returns-4 : tie.Need-returns-4
+returns-4 : tie.Need-returns
 unfolding q24 every
 returns-4 c =
     simp (
-      yes (pvtype c.before.before.before.before.before.before.before.before.before) c.before.before.before.before.before.before.before.before.if1.false,
-      yes (pjust c.before.before.before.before.before.before) c.before.before.before.before.before.if2.false,
-      yes (ic c.before.before.before) c.before.before.if3.false,
+      yes (pvtype c.before.before.before.before.before.before.before.before.before) c.if-not-is_named.false,
+      yes (pjust c.before.before.before.before.before.before) c.if-not-is_named-2.false,
+      yes (ic c.before.before.before) c.if-not-is_named-3.false,
     )
     (imode c ∙ every-last _)
 

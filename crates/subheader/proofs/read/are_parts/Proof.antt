@@ -12,36 +12,36 @@ use Rattle.subheader.proofs.read.are_parts.Statement.{statement}
 use Rattle.subheader.proofs.read.are_parts.Tie as tie
 
 -- the lengths
-fits : (c : tie.Else1)
-    → let a = c.before.before.before.before.before.args in
+fits : (c : tie.Else-not-parts_fit)
+    → let a = c.args in
     Lengths (length a.first.now) (length a.second.now) (length a.third.now)
-fits c = lengths _ _ _ (yes c.before.parts-fit.ensures c.if1.false)
+fits c = lengths _ _ _ (yes c.parts_fit.ensures c.if-not-parts_fit.false)
 
-parts-fit-requires : tie.Need-parts-fit-requires
+parts-fit-requires : tie.Need-parts_fit-requires
 parts-fit-requires c κs = search rules
 
-returns : tie.Need-returns
+returns : tie.Need-returns-then-not-parts_fit
 unfolding q23 every
-returns c = simp (no c.before.parts-fit.ensures c.if1.true)
+returns c = simp (no c.parts_fit.ensures c.if-not-parts_fit.true)
 
-first-numbers-requires : tie.Need-first-numbers-requires
+first-numbers-requires : tie.Need-first_numbers-requires
 first-numbers-requires c κs = (fits c).first
 
-returns-2 : tie.Need-returns-2
+returns-2 : tie.Need-returns-then-not-first_numbers
 unfolding q23 every
-returns-2 c = simp (yes c.before.before.before.parts-fit.ensures c.before.before.if1.false, no c.before.first-numbers.ensures c.if2.true)
+returns-2 c = simp (yes c.parts_fit.ensures c.if-not-parts_fit.false, no c.first_numbers.ensures c.if-not-first_numbers.true)
 
-third-numbers-requires : tie.Need-third-numbers-requires
+third-numbers-requires : tie.Need-third_numbers-requires
 third-numbers-requires c κs = (fits c.before.before).third
 
-returns-3 : tie.Need-returns-3
+returns-3 : tie.Need-returns
 unfolding q23 every
 returns-3 c =
     simp (
-      yes c.before.before.before.before.parts-fit.ensures c.before.before.before.if1.false,
-      yes c.before.before.first-numbers.ensures c.before.if2.false,
+      yes c.parts_fit.ensures c.if-not-parts_fit.false,
+      yes c.first_numbers.ensures c.if-not-first_numbers.false,
     )
-    (c.third-numbers.ensures ∙ every-last _)
+    (c.third_numbers.ensures ∙ every-last _)
 
 pub are_parts_spec : {M : Type 1} → statement M
 are_parts_spec =

@@ -5,22 +5,22 @@ use Rattle.subheader.proofs.Parts.{ready}
 use Rattle.subheader.proofs.read.effective_nppbh.Statement.{statement}
 use Rattle.subheader.proofs.read.effective_nppbh.Tie as tie
 
-number-in-requires : tie.Need-number-in-requires
-number-in-requires c κs = (ready c.before.before.requires).nppbh
+number-in-requires : tie.Need-number_in-nppbh-requires
+number-in-requires c κs = (ready c.requires).nppbh
 
-number-in-requires-2 : tie.Need-number-in-requires-2
-number-in-requires-2 c κs = (ready c.before.before.before.requires).nbpr
+number-in-requires-2 : tie.Need-number_in-nbpr-requires
+number-in-requires-2 c κs = (ready c.requires).nbpr
 
-number-in-requires-3 : tie.Need-number-in-requires-3
-number-in-requires-3 c κs = (ready c.before.before.before.before.requires).ncols
+number-in-requires-3 : tie.Need-number_in-requires
+number-in-requires-3 c κs = (ready c.requires).ncols
 
-effective-side-requires : tie.Need-effective-side-requires
+effective-side-requires : tie.Need-effective_side-requires
 effective-side-requires c κs = search rules
 
 returns : tie.Need-returns
 returns c =
-    let third = c.before in
-    rw (third.before.before.number_in.ensures, third.before.number-in2.ensures, third.number-in3.ensures) at c.effective-side.ensures
+    let third = c in
+    rw (third.number_in-nppbh.ensures, third.number_in-nbpr.ensures, third.number_in.ensures) at c.effective_side.ensures
 
 pub effective_nppbh_spec : {M : Type 1} → statement M
 effective_nppbh_spec =

@@ -10,10 +10,10 @@ use lib.Seq.{take_all, take-suc, take-suc-set}
 use Rattle.subheader.proofs.read.eight_bytes.Statement.{statement}
 use Rattle.subheader.proofs.read.eight_bytes.Tie as tie
 
-abbrev invariant-loop : tie.invariant-loop
+abbrev invariant-loop : tie.invariant-loop-j
 invariant-loop bytes out₀ j₀ out j = (j ≤ 8) × (length out ≡ 8) × (take j out ≡ take j bytes)
 
-abbrev decreases-loop : tie.decreases-loop
+abbrev decreases-loop : tie.decreases-loop-j
 decreases-loop bytes out₀ j₀ out j = 8 - j
 
 -- a turn: one more byte
@@ -23,32 +23,32 @@ turn xs out j h l e =
     rw add-one
     (take-suc-set out j (get_or xs j 0) l ∙ ap (λ (a : List ℕ). a ++ (get_or xs j 0 ∷ [])) e ∙ sym (take-suc xs j 0 h))
 
-loop-holds : tie.Need-loop-init invariant-loop decreases-loop
+loop-holds : tie.Need-loop-j-init invariant-loop decreases-loop
 loop-holds c = (omega arith, refl, refl)
 
-shared-slice-read-out : tie.Need-shared-slice-read-out invariant-loop decreases-loop
+shared-slice-read-out : tie.Need-bounds-bytes-j invariant-loop decreases-loop
 shared-slice-read-out c = omega arith
 
-array-write-out : tie.Need-array-write-out invariant-loop decreases-loop
+array-write-out : tie.Need-bounds-out-j invariant-loop decreases-loop
 array-write-out c = omega arith
 
-add-j : tie.Need-overflow-add-j invariant-loop decreases-loop
+add-j : tie.Need-overflow_step-j invariant-loop decreases-loop
 add-j c = omega arith
 
-loop-less : tie.Need-loop-smaller invariant-loop decreases-loop
+loop-less : tie.Need-loop-j-smaller invariant-loop decreases-loop
 loop-less c = omega arith
 
-loop-again : tie.Need-loop-preserved invariant-loop decreases-loop
+loop-again : tie.Need-loop-j-preserved invariant-loop decreases-loop
 loop-again c =
-    let l = c.before.before in
-    (omega arith, rw length-set l.loop.invariant.1, turn l.before.args.bytes.now l.loop.out l.loop.j (omega (arith, l.before.requires)) (omega (arith, l.loop.invariant.1)) l.loop.invariant.2)
+    let l = c in
+    (omega arith, rw length-set l.loop-j.invariant.1, turn l.args.bytes.now l.loop-j.out l.loop-j.j (omega (arith, l.requires)) (omega (arith, l.loop-j.invariant.1)) l.loop-j.invariant.2)
 
 returns : tie.Need-returns invariant-loop decreases-loop
 returns c =
-    let xs : List ℕ = c.before.before.args.bytes.now in
-    let out : List ℕ = c.before.loop.out in
-    let e : c.before.loop.j ≡ 8 = omega arith in
-    sym (take_all 8 out (omega (arith, c.before.loop.invariant.1))) ∙ (rw e at c.before.loop.invariant.2) ∙ take_all 8 xs (omega (arith, c.before.before.requires))
+    let xs : List ℕ = c.args.bytes.now in
+    let out : List ℕ = c.loop-j.out in
+    let e : c.loop-j.j ≡ 8 = omega arith in
+    sym (take_all 8 out (omega (arith, c.loop-j.invariant.1))) ∙ (rw e at c.loop-j.invariant.2) ∙ take_all 8 xs (omega (arith, c.requires))
 
 pub eight_bytes_spec : {M : Type 1} → statement M
 eight_bytes_spec =

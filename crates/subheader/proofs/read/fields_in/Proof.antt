@@ -22,40 +22,40 @@ fits s = lengths _ _ _ (fit _ _ _ s.requires)
 digits : (s : tie.Start) → Numbered s.args.first.now s.args.third.now
 digits s = numbered _ s.args.second.now _ s.requires
 
-bytes-in-requires : tie.Need-bytes-in-requires
+bytes-in-requires : tie.Need-bytes_in-requires
 bytes-in-requires c κs = omega (arith, (fits c.before.before.before).first)
 
-from-bytes-requires : tie.Need-from-bytes-requires
+from-bytes-requires : tie.Need-from_bytes-requires
 from-bytes-requires c κs = search rules
 
-bytes-in-requires-2 : tie.Need-bytes-in-requires-2
+bytes-in-requires-2 : tie.Need-bytes_in-requires-2
 bytes-in-requires-2 c κs = omega (arith, (fits c.before.before.before.before.before).first)
 
-eight-bytes-requires : tie.Need-eight-bytes-requires
-eight-bytes-requires c κs = ap length c.bytes-in2.ensures ∙ length-bytes_in c.before.before.before.before.before.before.args.first.now IREP (omega (arith, (fits c.before.before.before.before.before.before).first))
+eight-bytes-requires : tie.Need-eight_bytes-requires
+eight-bytes-requires c κs = ap length c.bytes_in-2.ensures ∙ length-bytes_in c.args.first.now IREP (omega (arith, (fits c.before.before.before.before.before.before).first))
 
-bytes-in-requires-3 : tie.Need-bytes-in-requires-3
+bytes-in-requires-3 : tie.Need-bytes_in-requires-3
 bytes-in-requires-3 c κs = omega (arith, (fits c.before.before.before.before.before.before.before).first)
 
-eight-bytes-requires-2 : tie.Need-eight-bytes-requires-2
-eight-bytes-requires-2 c κs = ap length c.bytes-in3.ensures ∙ length-bytes_in c.before.before.before.before.before.before.before.before.args.first.now ICAT (omega (arith, (fits c.before.before.before.before.before.before.before.before).first))
+eight-bytes-requires-2 : tie.Need-eight_bytes-requires-2
+eight-bytes-requires-2 c κs = ap length c.bytes_in-3.ensures ∙ length-bytes_in c.args.first.now ICAT (omega (arith, (fits c.before.before.before.before.before.before.before.before).first))
 
-number-in-requires : tie.Need-number-in-requires
+number-in-requires : tie.Need-number_in-requires
 number-in-requires c κs = (ready (digits c.before.before.before.before.before.before.before.before.before)).abpp
 
-bytes-in-requires-4 : tie.Need-bytes-in-requires-4
+bytes-in-requires-4 : tie.Need-bytes_in-requires-4
 bytes-in-requires-4 c κs = omega (arith, (fits c.before.before.before.before.before.before.before.before.before.before).first)
 
-from-bytes-requires-2 : tie.Need-from-bytes-requires-2
+from-bytes-requires-2 : tie.Need-from_bytes-requires-2
 from-bytes-requires-2 c κs = search rules
 
-bytes-in-requires-5 : tie.Need-bytes-in-requires-5
+bytes-in-requires-5 : tie.Need-bytes_in-requires-5
 bytes-in-requires-5 c κs = omega (arith, (fits c.before.before.before.before.before.before.before.before.before.before.before.before).second)
 
-from-bytes-requires-3 : tie.Need-from-bytes-requires-3
+from-bytes-requires-3 : tie.Need-from_bytes-requires-3
 from-bytes-requires-3 c κs = search rules
 
-grid-of-parts-requires : tie.Need-grid-of-parts-requires
+grid-of-parts-requires : tie.Need-grid_of_parts-requires
 grid-of-parts-requires c κs = digits c.before.before.before.before.before.before.before.before.before.before.before.before.before.before
 
 returns : tie.Need-returns
@@ -65,15 +65,15 @@ returns c =
     let abpp = pjust.before.before in
     let icat = abpp.before in
     let irep = icat.before.before in
-    let pvtype = irep.before.before in
+    let pvtype = irep in
     rw (
-      pvtype.from_bytes.ensures ∙ ap (value_of pvtype_text pvtypes UnsignedInt) pvtype.before.bytes-in.ensures,
-      irep.eight-bytes.ensures ∙ irep.before.bytes-in2.ensures,
-      icat.eight-bytes2.ensures ∙ icat.before.bytes-in3.ensures,
+      pvtype.from_bytes.ensures ∙ ap (value_of pvtype_text pvtypes UnsignedInt) pvtype.bytes_in.ensures,
+      irep.eight_bytes.ensures ∙ irep.bytes_in-2.ensures,
+      icat.eight_bytes-2.ensures ∙ icat.bytes_in-3.ensures,
       abpp.number_in.ensures,
-      pjust.from-bytes2.ensures ∙ ap (value_of pjust_text pjusts Right) pjust.before.bytes-in4.ensures,
-      ic.from-bytes3.ensures ∙ ap (value_of ic_text ics NC) ic.before.bytes-in5.ensures,
-      c.grid-of-parts.ensures,
+      pjust.from_bytes-2.ensures ∙ ap (value_of pjust_text pjusts Right) pjust.bytes_in-4.ensures,
+      ic.from_bytes-3.ensures ∙ ap (value_of ic_text ics NC) ic.bytes_in-5.ensures,
+      c.grid_of_parts.ensures,
     )
 
 pub fields_in_spec : {M : Type 1} → statement M

@@ -9,31 +9,31 @@ use Rattle.subheader.specs.Subheader.{first_numbers}
 use Rattle.subheader.proofs.read.first_numbers.Statement.{statement}
 use Rattle.subheader.proofs.read.first_numbers.Tie as tie
 
-is-number-requires : tie.Need-is-number-requires
+is-number-requires : tie.Need-is_number-requires
 is-number-requires c κs = search rules
 
-returns : tie.Need-returns
+returns : tie.Need-returns-then-not-is_number
 unfolding first_numbers every
-returns c = simp (no c.before.is_number.ensures c.if1.true)
+returns c = simp (no c.is_number.ensures c.if-not-is_number.true)
 
-is-number-requires-2 : tie.Need-is-number-requires-2
+is-number-requires-2 : tie.Need-is_number-requires-2
 is-number-requires-2 c κs = search rules
 
-returns-2 : tie.Need-returns-2
+returns-2 : tie.Need-returns-then-not-is_number-2
 unfolding first_numbers every
-returns-2 c = simp (yes c.before.before.before.is_number.ensures c.before.before.if1.false, no c.before.is-number2.ensures c.if2.true)
+returns-2 c = simp (yes c.is_number.ensures c.if-not-is_number.false, no c.is_number-2.ensures c.if-not-is_number-2.true)
 
-is-number-requires-3 : tie.Need-is-number-requires-3
+is-number-requires-3 : tie.Need-is_number-requires-3
 is-number-requires-3 c κs = search rules
 
-returns-3 : tie.Need-returns-3
+returns-3 : tie.Need-returns
 unfolding first_numbers every
 returns-3 c =
     simp (
-      yes c.before.before.before.before.is_number.ensures c.before.before.before.if1.false,
-      yes c.before.before.is-number2.ensures c.before.if2.false,
+      yes c.is_number.ensures c.if-not-is_number.false,
+      yes c.is_number-2.ensures c.if-not-is_number-2.false,
     )
-    (c.is-number3.ensures ∙ every-last _)
+    (c.is_number-3.ensures ∙ every-last _)
 
 pub first_numbers_spec : {M : Type 1} → statement M
 first_numbers_spec =

@@ -8,32 +8,32 @@ use Rattle.subheader.proofs.Parts.{ready}
 use Rattle.subheader.proofs.read.grid_of_parts.Statement.{statement}
 use Rattle.subheader.proofs.read.grid_of_parts.Tie as tie
 
-number-in-requires : tie.Need-number-in-requires
-number-in-requires c κs = (ready c.before.before.requires).nrows
+number-in-requires : tie.Need-number_in-requires
+number-in-requires c κs = (ready c.requires).nrows
 
-number-in-requires-2 : tie.Need-number-in-requires-2
-number-in-requires-2 c κs = (ready c.before.before.before.requires).ncols
+number-in-requires-2 : tie.Need-number_in-requires-2
+number-in-requires-2 c κs = (ready c.requires).ncols
 
-number-in-requires-3 : tie.Need-number-in-requires-3
-number-in-requires-3 c κs = (ready c.before.before.before.before.requires).nbpp
+number-in-requires-3 : tie.Need-number_in-requires-3
+number-in-requires-3 c κs = (ready c.requires).nbpp
 
-bytes-in-requires : tie.Need-bytes-in-requires
+bytes-in-requires : tie.Need-bytes_in-requires
 bytes-in-requires c κs = search rules
 
-mode-from-bytes-requires : tie.Need-mode-from-bytes-requires
+mode-from-bytes-requires : tie.Need-mode_from_bytes-requires
 mode-from-bytes-requires c κs = search rules
 
-effective-nppbh-requires : tie.Need-effective-nppbh-requires
+effective-nppbh-requires : tie.Need-effective_nppbh-requires
 effective-nppbh-requires c κs = search rules
 
-effective-nppbv-requires : tie.Need-effective-nppbv-requires
+effective-nppbv-requires : tie.Need-effective_nppbv-requires
 effective-nppbv-requires c κs = search rules
 
-number-in-requires-4 : tie.Need-number-in-requires-4
-number-in-requires-4 c κs = (ready c.before.before.before.before.before.before.before.before.before.requires).nbpr
+number-in-requires-4 : tie.Need-number_in-requires-4
+number-in-requires-4 c κs = (ready c.requires).nbpr
 
-number-in-requires-5 : tie.Need-number-in-requires-5
-number-in-requires-5 c κs = (ready c.before.before.before.before.before.before.before.before.before.before.requires).nbpc
+number-in-requires-5 : tie.Need-number_in-requires-5
+number-in-requires-5 c κs = (ready c.requires).nbpc
 
 returns : tie.Need-returns
 returns c =
@@ -41,16 +41,16 @@ returns c =
     let rows = across.before in
     let columns = rows.before in
     let mode = columns.before in
-    let bits = mode.before.before in
+    let bits = mode in
     rw (
-      bits.before.before.number_in.ensures,
-      bits.before.number-in2.ensures,
-      bits.number-in3.ensures,
-      mode.mode-from-bytes.ensures ∙ ap (value_of imode_text imodes B) mode.before.bytes-in.ensures,
-      columns.effective-nppbh.ensures,
-      rows.effective-nppbv.ensures,
-      across.number-in4.ensures,
-      c.number-in5.ensures,
+      bits.number_in.ensures,
+      bits.number_in-2.ensures,
+      bits.number_in-3.ensures,
+      mode.mode_from_bytes.ensures ∙ ap (value_of imode_text imodes B) mode.bytes_in.ensures,
+      columns.effective_nppbh.ensures,
+      rows.effective_nppbv.ensures,
+      across.number_in-4.ensures,
+      c.number_in-5.ensures,
     )
 
 pub grid_of_parts_spec : {M : Type 1} → statement M

@@ -7,17 +7,17 @@ use Rattle.subheader.specs.Subheader.{parts_fit}
 use Rattle.subheader.proofs.read.parts_fit.Statement.{statement}
 use Rattle.subheader.proofs.read.parts_fit.Tie as tie
 
-returns : tie.Need-returns
+returns : tie.Need-returns-then-first-ne-FIRST_BYTES
 unfolding parts_fit every
-returns c = simp (ne_eqb _ _ c.if1.true)
+returns c = simp (ne_eqb _ _ c.if-first-ne-FIRST_BYTES.true)
 
-returns-2 : tie.Need-returns-2
+returns-2 : tie.Need-returns-then-second-ne-SECOND_BYTES
 unfolding parts_fit every
-returns-2 c = simp (eq-eqb _ _ c.before.if1.false, ne_eqb _ _ c.if2.true)
+returns-2 c = simp (eq-eqb _ _ c.if-first-ne-FIRST_BYTES.false, ne_eqb _ _ c.if-second-ne-SECOND_BYTES.true)
 
-returns-3 : tie.Need-returns-3
+returns-3 : tie.Need-returns
 unfolding parts_fit every
-returns-3 c = simp (eq-eqb _ _ c.before.if1.false, eq-eqb _ _ c.if2.false) (every-last _)
+returns-3 c = simp (eq-eqb _ _ c.if-first-ne-FIRST_BYTES.false, eq-eqb _ _ c.if-second-ne-SECOND_BYTES.false) (every-last _)
 
 pub parts_fit_spec : {M : Type 1} → statement M
 parts_fit_spec = tie.close (tie.spec returns returns-2 returns-3)

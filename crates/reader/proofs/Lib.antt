@@ -1,3 +1,0 @@
-pub mod Method
-pub mod OnBlock
-pub mod Walks
