@@ -49,10 +49,10 @@ slice-aggregate-print-text-2 c = search rules
 print-text-requires-2 : tie.Need-print-text-requires-2
 print-text-requires-2 c κs = search rules
 
-returns : tie.Need-returns
+returns : tie.Need-returns-then-store_and_read
 returns c = search rules
 
-returns-2 : tie.Need-returns-2
+returns-2 : tie.Need-returns-else-store_and_read
 returns-2 c = search rules
 
 pub main_spec : {M : Type 1} → statement M

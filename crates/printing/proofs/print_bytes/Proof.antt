@@ -6,31 +6,31 @@ use borrow.Author.Rules.{rules}
 use Rattle.printing.proofs.print_bytes.Statement.{statement}
 use Rattle.printing.proofs.print_bytes.Tie as tie
 
-abbrev invariant-loop : tie.invariant-loop
+abbrev invariant-loop : tie.invariant-loop-i
 invariant-loop bytes i₀ i-end i = i ≤ i-end
 
-abbrev decreases-loop : tie.decreases-loop
+abbrev decreases-loop : tie.decreases-loop-i
 decreases-loop bytes i₀ i-end i = i-end - i
 
-loop-holds : tie.Need-loop-init invariant-loop decreases-loop
+loop-holds : tie.Need-loop-i-init invariant-loop decreases-loop
 loop-holds c = omega arith
 
-shared-slice-read-print-hex : tie.Need-shared-slice-read-print-hex invariant-loop decreases-loop
+shared-slice-read-print-hex : tie.Need-bounds-bytes-i invariant-loop decreases-loop
 shared-slice-read-print-hex c = search rules
 
-cast-print-hex : tie.Need-overflow-cast-print-hex invariant-loop decreases-loop
-cast-print-hex c = omega (arith, c.shared-slice-known2.given c.before.before.loop.i)
+cast-print-hex : tie.Need-overflow_cast-bytes invariant-loop decreases-loop
+cast-print-hex c = omega (arith, c.shared_slice_known-in-loop-i-1.given c.loop-i.i)
 
-print-hex-requires : tie.Need-print-hex-requires invariant-loop decreases-loop
+print-hex-requires : tie.Need-print_hex-requires invariant-loop decreases-loop
 print-hex-requires c κs = search rules
 
-add-i : tie.Need-overflow-add-i invariant-loop decreases-loop
+add-i : tie.Need-overflow_step-i invariant-loop decreases-loop
 add-i c = omega arith
 
-loop-less : tie.Need-loop-smaller invariant-loop decreases-loop
+loop-less : tie.Need-loop-i-smaller invariant-loop decreases-loop
 loop-less c = omega arith
 
-loop-again : tie.Need-loop-preserved invariant-loop decreases-loop
+loop-again : tie.Need-loop-i-preserved invariant-loop decreases-loop
 loop-again c = omega arith
 
 returns : tie.Need-returns invariant-loop decreases-loop

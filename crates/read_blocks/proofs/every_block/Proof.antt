@@ -6,25 +6,25 @@ use borrow.Author.Rules.{rules}
 use Rattle.read_blocks.proofs.every_block.Statement.{statement}
 use Rattle.read_blocks.proofs.every_block.Tie as tie
 
-abbrev invariant-loop : tie.invariant-loop
+abbrev invariant-loop : tie.invariant-loop-k
 invariant-loop image edges i width k₀ k = k ≤ 4
 
-abbrev decreases-loop : tie.decreases-loop
+abbrev decreases-loop : tie.decreases-loop-k
 decreases-loop image edges i width k₀ k = 4 - k
 
-loop-holds : tie.Need-loop-init invariant-loop decreases-loop
+loop-holds : tie.Need-loop-k-init invariant-loop decreases-loop
 loop-holds c = omega arith
 
-print-block-requires : tie.Need-print-block-requires invariant-loop decreases-loop
+print-block-requires : tie.Need-print_block-requires invariant-loop decreases-loop
 print-block-requires c κs = search rules
 
-add-k : tie.Need-overflow-add-k invariant-loop decreases-loop
+add-k : tie.Need-overflow_step-k invariant-loop decreases-loop
 add-k c = omega arith
 
-loop-less : tie.Need-loop-smaller invariant-loop decreases-loop
+loop-less : tie.Need-loop-k-smaller invariant-loop decreases-loop
 loop-less c = omega arith
 
-loop-again : tie.Need-loop-preserved invariant-loop decreases-loop
+loop-again : tie.Need-loop-k-preserved invariant-loop decreases-loop
 loop-again c = omega arith
 
 returns : tie.Need-returns invariant-loop decreases-loop

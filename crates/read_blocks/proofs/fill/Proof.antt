@@ -8,38 +8,38 @@ use lib.ListN.{length}
 use Rattle.read_blocks.proofs.fill.Statement.{statement}
 use Rattle.read_blocks.proofs.fill.Tie as tie
 
-abbrev invariant-loop : tie.invariant-loop
+abbrev invariant-loop : tie.invariant-loop-i
 invariant-loop image₀ x₀ i₀ i-end image x i = (i ≤ i-end) × (i-end ≡ length image) × (length image ≡ length image₀)
 
-abbrev decreases-loop : tie.decreases-loop
+abbrev decreases-loop : tie.decreases-loop-i
 decreases-loop image₀ x₀ i₀ i-end image x i = i-end - i
 
-loop-holds : tie.Need-loop-init invariant-loop decreases-loop
+loop-holds : tie.Need-loop-i-init invariant-loop decreases-loop
 loop-holds c = search rules
 
-mul-x : tie.Need-overflow-mul-x invariant-loop decreases-loop
+mul-x : tie.Need-overflow_mul-x invariant-loop decreases-loop
 mul-x c = omega arith
 
-add-x : tie.Need-overflow-add-x invariant-loop decreases-loop
+add-x : tie.Need-overflow_add-x invariant-loop decreases-loop
 add-x c = omega arith
 
-cast-image : tie.Need-overflow-cast-image invariant-loop decreases-loop
+cast-image : tie.Need-overflow_cast-image invariant-loop decreases-loop
 cast-image c = search rules
 
-slice-write-image : tie.Need-slice-write-image invariant-loop decreases-loop
+slice-write-image : tie.Need-bounds-image-i invariant-loop decreases-loop
 slice-write-image c = omega arith
 
-add-i : tie.Need-overflow-add-i invariant-loop decreases-loop
+add-i : tie.Need-overflow_step-i invariant-loop decreases-loop
 add-i c = omega arith
 
-loop-less : tie.Need-loop-smaller invariant-loop decreases-loop
+loop-less : tie.Need-loop-i-smaller invariant-loop decreases-loop
 loop-less c = omega arith
 
-loop-again : tie.Need-loop-preserved invariant-loop decreases-loop
+loop-again : tie.Need-loop-i-preserved invariant-loop decreases-loop
 loop-again c = search rules
 
-same_length : tie.Need-same-length invariant-loop decreases-loop
-same_length c = c.before.loop.invariant.2
+same_length : tie.Need-shape_of-image invariant-loop decreases-loop
+same_length c = c.loop-i.invariant.2
 
 returns : tie.Need-returns invariant-loop decreases-loop
 returns c = search rules

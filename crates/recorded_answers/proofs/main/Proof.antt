@@ -5,10 +5,10 @@ use lib.ListN.{length-replicate}
 use Rattle.recorded_answers.proofs.main.Statement.{statement}
 use Rattle.recorded_answers.proofs.main.Tie as tie
 
-slice-aggregate-read-and-replay : tie.Need-slice-aggregate-read-and-replay
+slice-aggregate-read-and-replay : tie.Need-slice_bounds-read_and_replay-end
 slice-aggregate-read-and-replay c = sym (length-replicate {A = ℕ} 600001 0)
 
-read-and-replay-requires : tie.Need-read-and-replay-requires
+read-and-replay-requires : tie.Need-read_and_replay-requires
 read-and-replay-requires c κs = search rules
 
 returns : tie.Need-returns

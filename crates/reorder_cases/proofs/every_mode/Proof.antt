@@ -6,25 +6,25 @@ use borrow.Author.Rules.{rules}
 use Rattle.reorder_cases.proofs.every_mode.Statement.{statement}
 use Rattle.reorder_cases.proofs.every_mode.Tie as tie
 
-abbrev invariant-loop : tie.invariant-loop
+abbrev invariant-loop : tie.invariant-loop-i
 invariant-loop size i₀ i = i ≤ 4
 
-abbrev decreases-loop : tie.decreases-loop
+abbrev decreases-loop : tie.decreases-loop-i
 decreases-loop size i₀ i = 4 - i
 
-loop-holds : tie.Need-loop-init invariant-loop decreases-loop
+loop-holds : tie.Need-loop-i-init invariant-loop decreases-loop
 loop-holds c = omega arith
 
 reorder-requires : tie.Need-reorder-requires invariant-loop decreases-loop
 reorder-requires c κs = search rules
 
-add-i : tie.Need-overflow-add-i invariant-loop decreases-loop
+add-i : tie.Need-overflow_step-i invariant-loop decreases-loop
 add-i c = omega arith
 
-loop-less : tie.Need-loop-smaller invariant-loop decreases-loop
+loop-less : tie.Need-loop-i-smaller invariant-loop decreases-loop
 loop-less c = omega arith
 
-loop-again : tie.Need-loop-preserved invariant-loop decreases-loop
+loop-again : tie.Need-loop-i-preserved invariant-loop decreases-loop
 loop-again c = omega arith
 
 returns : tie.Need-returns invariant-loop decreases-loop

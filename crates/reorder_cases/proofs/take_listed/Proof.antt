@@ -7,13 +7,13 @@ use borrow.Author.Rules.{rules}
 use Rattle.reorder_cases.proofs.take_listed.Statement.{statement}
 use Rattle.reorder_cases.proofs.take_listed.Tie as tie
 
-returns : tie.Need-returns
+returns : tie.Need-returns-then-size-gt8
 returns c = search rules
 
-mul-if2 : tie.Need-overflow-mul-if2
+mul-if2 : tie.Need-overflow_mul-size
 mul-if2 c = search rules
 
-returns-2 : tie.Need-returns-2
+returns-2 : tie.Need-returns-then-data-size
 returns-2 c = search rules
 
 mul-fused-bip-to-bsq : tie.Need-overflow-mul-fused-bip-to-bsq
@@ -31,10 +31,10 @@ slice-aggregate-print-answer c = search rules
 print-answer-requires : tie.Need-print-answer-requires
 print-answer-requires c κs = search rules
 
-same_length : tie.Need-same-length
+same_length : tie.Need-shape_of-out
 same_length c = search rules
 
-returns-3 : tie.Need-returns-3
+returns-3 : tie.Need-returns
 returns-3 c = search rules
 
 pub take_listed_spec : {M : Type 1} → statement M

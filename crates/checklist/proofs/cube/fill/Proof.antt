@@ -8,29 +8,29 @@ use borrow.Author.Rules.{rules}
 use Rattle.checklist.proofs.cube.fill.Statement.{statement}
 use Rattle.checklist.proofs.cube.fill.Tie as tie
 
-abbrev invariant-loop : tie.invariant-loop
+abbrev invariant-loop : tie.invariant-loop-k
 invariant-loop bytes₀ p k₀ bytes k = (k ≤ 36) × (length bytes ≡ length bytes₀)
 
-abbrev decreases-loop : tie.decreases-loop
+abbrev decreases-loop : tie.decreases-loop-k
 decreases-loop bytes₀ p k₀ bytes k = 36 - k
 
-loop-holds : tie.Need-loop-init invariant-loop decreases-loop
+loop-holds : tie.Need-loop-k-init invariant-loop decreases-loop
 loop-holds c = search rules
 
-put-sample-requires : tie.Need-put-sample-requires invariant-loop decreases-loop
+put-sample-requires : tie.Need-put_sample-requires invariant-loop decreases-loop
 put-sample-requires c κs = (search rules, search rules, omega arith)
 
-add-k : tie.Need-overflow-add-k invariant-loop decreases-loop
+add-k : tie.Need-overflow_step-k invariant-loop decreases-loop
 add-k c = omega arith
 
-loop-less : tie.Need-loop-smaller invariant-loop decreases-loop
+loop-less : tie.Need-loop-k-smaller invariant-loop decreases-loop
 loop-less c = omega arith
 
-loop-again : tie.Need-loop-preserved invariant-loop decreases-loop
-loop-again c = (omega arith, omega (arith, c.before.before.put-sample.ensures))
+loop-again : tie.Need-loop-k-preserved invariant-loop decreases-loop
+loop-again c = (omega arith, omega (arith, c.put_sample.ensures))
 
-same_length : tie.Need-same-length invariant-loop decreases-loop
-same_length c = c.before.loop.invariant.1
+same_length : tie.Need-shape_of-bytes invariant-loop decreases-loop
+same_length c = c.loop-k.invariant.1
 
 returns : tie.Need-returns invariant-loop decreases-loop
 returns c = search rules

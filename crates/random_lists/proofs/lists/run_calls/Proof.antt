@@ -13,10 +13,10 @@ decreases-loop seed₀ p image₀ marks₀ numbers₀ reached₀ counts₀ count
 loop-holds : tie.Need-loop-init invariant-loop decreases-loop
 loop-holds c = search rules
 
-lend-and-call-requires : tie.Need-lend-and-call-requires invariant-loop decreases-loop
+lend-and-call-requires : tie.Need-lend_and_call-requires invariant-loop decreases-loop
 lend-and-call-requires c κs = search rules
 
-add-counter : tie.Need-overflow-add-counter invariant-loop decreases-loop
+add-counter : tie.Need-overflow_step invariant-loop decreases-loop
 add-counter c = omega arith
 
 loop-less : tie.Need-loop-smaller invariant-loop decreases-loop
@@ -25,20 +25,20 @@ loop-less c = omega arith
 loop-again : tie.Need-loop-preserved invariant-loop decreases-loop
 loop-again c = search rules
 
-same_length : tie.Need-same-length invariant-loop decreases-loop
-same_length c = c.before.loop.invariant.1
+same_length : tie.Need-shape_of-image invariant-loop decreases-loop
+same_length c = c.loop.invariant.1
 
-same-length-2 : tie.Need-same-length-2 invariant-loop decreases-loop
-same-length-2 c = c.before.loop.invariant.2
+same-length-2 : tie.Need-shape_of-marks invariant-loop decreases-loop
+same-length-2 c = c.loop.invariant.2
 
-same-length-3 : tie.Need-same-length-3 invariant-loop decreases-loop
-same-length-3 c = c.before.loop.invariant.3
+same-length-3 : tie.Need-shape_of-numbers invariant-loop decreases-loop
+same-length-3 c = c.loop.invariant.3
 
-same-length-4 : tie.Need-same-length-4 invariant-loop decreases-loop
-same-length-4 c = c.before.loop.invariant.4
+same-length-4 : tie.Need-shape_of-reached invariant-loop decreases-loop
+same-length-4 c = c.loop.invariant.4
 
-same-length-5 : tie.Need-same-length-5 invariant-loop decreases-loop
-same-length-5 c = c.before.loop.invariant.5
+same-length-5 : tie.Need-shape_of-counts invariant-loop decreases-loop
+same-length-5 c = c.loop.invariant.5
 
 returns : tie.Need-returns invariant-loop decreases-loop
 returns c = search rules

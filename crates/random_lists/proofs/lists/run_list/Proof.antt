@@ -4,10 +4,10 @@ use Rattle.std.proofs.Common.{sym, arith, length-take-le, rules}
 use Rattle.random_lists.proofs.lists.run_list.Statement.{statement}
 use Rattle.random_lists.proofs.lists.run_list.Tie as tie
 
-some-picture-requires : tie.Need-some-picture-requires
+some-picture-requires : tie.Need-some_picture-p-requires
 some-picture-requires c κs = search rules
 
-slice-aggregate-fill : tie.Need-slice-aggregate-fill
+slice-aggregate-fill : tie.Need-slice_bounds-fill-end
 slice-aggregate-fill c = search rules
 
 fill-requires : tie.Need-fill-requires
@@ -16,37 +16,37 @@ fill-requires c κs = search rules
 below-requires : tie.Need-below-requires
 below-requires c κs = search rules
 
-sum-requires : tie.Need-sum-requires
+sum-requires : tie.Need-sum-room-requires
 sum-requires c κs = search rules
 
-returns : tie.Need-returns
+returns : tie.Need-returns-then-room-gt8192
 returns c = search rules
 
-lent-requires : tie.Need-lent-requires
+lent-requires : tie.Need-lent-n-requires
 lent-requires c κs = search rules
 
-lent-requires-2 : tie.Need-lent-requires-2
+lent-requires-2 : tie.Need-lent-m-requires
 lent-requires-2 c κs = search rules
 
-array-borrow-prefix-image : tie.Need-array-borrow-prefix-image
+array-borrow-prefix-image : tie.Need-slice_bounds-image-end
 array-borrow-prefix-image c = search rules
 
-slice-aggregate-start-and-run : tie.Need-slice-aggregate-start-and-run
+slice-aggregate-start-and-run : tie.Need-slice_bounds-start_and_run-end
 slice-aggregate-start-and-run c = sym (length-take-le _ _ (omega arith))
 
-array-borrow-prefix-marks : tie.Need-array-borrow-prefix-marks
+array-borrow-prefix-marks : tie.Need-slice_bounds-marks-end
 array-borrow-prefix-marks c = search rules
 
-slice-aggregate-start-and-run-2 : tie.Need-slice-aggregate-start-and-run-2
+slice-aggregate-start-and-run-2 : tie.Need-slice_bounds-start_and_run-end-2
 slice-aggregate-start-and-run-2 c = sym (length-take-le _ _ (omega arith))
 
-start-and-run-requires : tie.Need-start-and-run-requires
+start-and-run-requires : tie.Need-start_and_run-requires
 start-and-run-requires c κs = search rules
 
-same_length : tie.Need-same-length
+same_length : tie.Need-shape_of-counts
 same_length c = search rules
 
-returns-2 : tie.Need-returns-2
+returns-2 : tie.Need-returns
 returns-2 c = search rules
 
 pub run_list_spec : {M : Type 1} → statement M

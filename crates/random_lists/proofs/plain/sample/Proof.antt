@@ -4,28 +4,28 @@ use Rattle.std.proofs.Common.{◌-◌, ◌≤◌, arith, rules}
 use Rattle.random_lists.proofs.plain.sample.Statement.{statement}
 use Rattle.random_lists.proofs.plain.sample.Tie as tie
 
-abbrev invariant-loop : tie.invariant-loop
+abbrev invariant-loop : tie.invariant-loop-k
 invariant-loop «data» at size v₀ k₀ v k = k ≤ size
 
-abbrev decreases-loop : tie.decreases-loop
+abbrev decreases-loop : tie.decreases-loop-k
 decreases-loop «data» at size v₀ k₀ v k = size - k
 
-loop-holds : tie.Need-loop-init invariant-loop decreases-loop
+loop-holds : tie.Need-loop-k-init invariant-loop decreases-loop
 loop-holds c = omega arith
 
 sum-requires : tie.Need-sum-requires invariant-loop decreases-loop
 sum-requires c κs = search rules
 
-next-byte-requires : tie.Need-next-byte-requires invariant-loop decreases-loop
+next-byte-requires : tie.Need-next_byte-v-requires invariant-loop decreases-loop
 next-byte-requires c κs = search rules
 
-add-k : tie.Need-overflow-add-k invariant-loop decreases-loop
+add-k : tie.Need-overflow_step-k invariant-loop decreases-loop
 add-k c = omega arith
 
-loop-less : tie.Need-loop-smaller invariant-loop decreases-loop
+loop-less : tie.Need-loop-k-smaller invariant-loop decreases-loop
 loop-less c = omega arith
 
-loop-again : tie.Need-loop-preserved invariant-loop decreases-loop
+loop-again : tie.Need-loop-k-preserved invariant-loop decreases-loop
 loop-again c = omega arith
 
 returns : tie.Need-returns invariant-loop decreases-loop
