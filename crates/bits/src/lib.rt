@@ -1,5 +1,6 @@
 // Numbers of 1 to 64 bits at any bit of a byte slice, high bit first.
 #![tactic(auto)]
+
 ghost use Rattle.std.specs.Prelude.{◌≡◌, ◌+◌, ◌*◌, ◌/◌, ◌%◌, ◌^◌, ◌≤◌, ◌<◌, length};
 ghost use Rattle.bits.specs.Bits.{bits_at, put_bits, with_field};
 

@@ -1,5 +1,6 @@
 // What the calls on an image answer. specs/ defines the calls; the crates above it do what these say.
 #![tactic(auto)]
+
 ghost use Rattle.std.specs.Prelude.{◌≡◌};
 ghost use Rattle.calls.specs.Reads.{no_shape};
 

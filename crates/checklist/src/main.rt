@@ -1,6 +1,7 @@
 // The field engineers' checklist, on a cube of 5 rows, 7 columns and 3 bands of 12 bits in blocks of 3 rows and 4
 // columns, in each mode. Each line says what was expected and what came.
 #![tactic(auto)]
+
 mod cube;
 mod say;
 

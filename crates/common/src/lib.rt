@@ -1,6 +1,7 @@
 // What every crate uses and no crate is about: small arithmetic and cleared buffers here, tests, questions, lists and
 // loops in specs/.
 #![tactic(auto)]
+
 ghost use Rattle.std.specs.Prelude.{◌≡◌, ◌*◌, min as lesser, leb};
 ghost use Rattle.common.specs.Tests.{within as isWithin, pick as picked};
 ghost use Rattle.common.specs.Rounding.{ceil_div};

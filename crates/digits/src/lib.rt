@@ -1,5 +1,6 @@
 // Numbers in decimal digits, the bytes 0x30 to 0x39, high digit first.
 #![tactic(auto)]
+
 ghost use Rattle.std.specs.Prelude.{◌≡◌, true, ◌≤◌, length};
 ghost use Rattle.digits.specs.Digits.{is_digit, are_digits, number_of, digit_bytes};
 

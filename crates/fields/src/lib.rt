@@ -1,5 +1,6 @@
 // The fields of three parts of an image subheader: where each stands, and how it is read and written.
 #![tactic(auto)]
+
 ghost use Rattle.std.specs.Prelude.{◌≡◌, true, ◌+◌, ◌≤◌, length};
 ghost use Rattle.fields.specs.Fields.{bytes_in, is_number, number_in, put, number, text as textEntry};
 

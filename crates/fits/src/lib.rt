@@ -1,5 +1,6 @@
 // Whether samples have no bit above their width.
 #![tactic(auto)]
+
 ghost use Rattle.std.specs.Prelude.{◌≡◌, ℕ, ◌+◌, ◌*◌, ◌/◌, ◌^◌, max, ◌≤◌, ◌<◌, ltb, length, get_or, replicate};
 ghost use Rattle.common.specs.Tests.{all_below};
 ghost use Rattle.bits.specs.Bits.{be_at};

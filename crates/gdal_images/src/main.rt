@@ -4,6 +4,7 @@
 // tools/wide_image.py made the image with the wide block, and its lines.
 // tools/packed_images.py made the packed images, and their lines from what GDAL reads out of them.
 #![tactic(auto)]
+
 mod header;
 
 use crate::header::{image_end, image_start, subheader_of};

@@ -1,6 +1,7 @@
 // The C boundary: one function for each call, over the proved entry points. Slices cross as a pointer and a length,
 // the grid as a struct of its numbers; a byte that is no mode, or no edge rule, is refused with 99, before question 1.
 #![tactic(auto)]
+
 mod masks;
 mod names;
 mod reads;

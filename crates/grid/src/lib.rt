@@ -1,5 +1,6 @@
 // The grid of a picture: MIL-STD-2500C's fields, their limits, sizes, and where a sample lies.
 #![tactic(auto)]
+
 ghost use Rattle.std.specs.Prelude.{◌≡◌};
 
 mod check;

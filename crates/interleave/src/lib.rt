@@ -1,5 +1,6 @@
 // Reorderings of a block's samples between the orders of the interleave modes. Samples stay big-endian.
 #![tactic(auto)]
+
 ghost use Rattle.std.specs.Prelude.{◌≡◌};
 ghost use Rattle.layout.specs.declared.InterleaveMode.TheVariants.{P, S};
 ghost use Rattle.layout.specs.Bands.{bands_of};

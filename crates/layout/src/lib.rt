@@ -1,6 +1,7 @@
 // A block's layout as a value: where each sample of a block lies in some bytes, whatever picture or file these bytes
 // are of.
 #![tactic(auto)]
+
 ghost use Rattle.std.specs.Prelude.{◌≡◌, ◌+◌, ◌*◌, ◌<◌, ◌≤◌, ◌^◌};
 ghost use Rattle.layout.specs.Order.{bands_apart};
 ghost use Rattle.layout.specs.Internal.Layout.{sample_bytes, byte_multiple, ordinal_in, run_size};

@@ -1,5 +1,6 @@
 // Grids at every limit of questions 1 to 4, and the figures without a letter: prints what the check answers.
 #![tactic(auto)]
+
 use grid::{EdgeRule, Grid};
 use layout::InterleaveMode;
 

@@ -1,5 +1,6 @@
 // Marks of blocks in lent 64-bit words.
 #![tactic(auto)]
+
 ghost use Rattle.std.specs.Prelude.{◌≡◌, ◌+◌, ◌*◌, ◌/◌, ◌<◌, ◌≤◌, ◌^◌, length};
 ghost use Rattle.marks.specs.Marks.{mark_words, q12, marked, mark, count, first_not, AllMarked};
 

@@ -1,5 +1,6 @@
 // The image data mask table: which blocks of a picture are stored, and where.
 #![tactic(auto)]
+
 ghost use Rattle.std.specs.Prelude.{◌≡◌};
 ghost use Rattle.grid.specs.Check.{Accepted};
 ghost use Rattle.mask.specs.Table.{records, code_bytes};

@@ -1,6 +1,7 @@
 // Mask tables at their limits: sizes that would wrap in 32 bits, the largest table that question 21 accepts, the
 // smallest that it refuses.
 #![tactic(auto)]
+
 use grid::{EdgeRule, Grid};
 use layout::InterleaveMode;
 use mask::ImageDataMask;

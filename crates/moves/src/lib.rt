@@ -1,5 +1,6 @@
 // Samples moved between a block, wherever it lies, and planes of samples in big-endian bytes.
 #![tactic(auto)]
+
 mod order;
 pub mod part;
 mod runs;

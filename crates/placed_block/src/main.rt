@@ -3,6 +3,7 @@
 // Two bands of 2 rows and 3 columns of 12 bits, in the order of P, in runs of 9 bytes, the first at byte 5 and the
 // second at byte 21.
 #![tactic(auto)]
+
 ghost use Rattle.std.specs.Prelude.{◌≡◌, true, length};
 ghost use Rattle.placed_block.specs.Placed.{placed_layout, twelve_bits};
 

@@ -1,5 +1,6 @@
 // What the programs print: text, numbers, bytes and the answers of reads.
 #![tactic(auto)]
+
 use calls::Shape;
 
 const OUT: i32 = 1;

@@ -2,6 +2,7 @@
 // refused.
 // A call that answers otherwise than the plain frame is counted as a difference.
 #![tactic(auto)]
+
 mod counts;
 mod ends;
 mod lists;

@@ -2,6 +2,7 @@
 // listed bands, refusals and short files, and prints the answers: first under the edge rule tight, then under full.
 // tools/expected_blocks.py works out what it must print.
 #![tactic(auto)]
+
 use grid::{EdgeRule, Grid};
 use layout::InterleaveMode;
 use printing::{print_bytes, print_letter, print_number, print_read, print_text};

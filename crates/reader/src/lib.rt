@@ -3,6 +3,7 @@
 // stands over, 1 to 4 about the grid first, so a reader of a refused grid refuses every read. `check` tells the grid's
 // number.
 #![tactic(auto)]
+
 ghost use Rattle.std.specs.Prelude.{◌≡◌, ◌+◌, length};
 ghost use Rattle.calls.specs.Orders.{rectangle, whole_number};
 ghost use Rattle.grid.specs.Check.{grid_number};

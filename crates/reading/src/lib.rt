@@ -1,5 +1,6 @@
 // Reading blocks: `decode_block`, and the whole block as a part of the image.
 #![tactic(auto)]
+
 ghost use Rattle.std.specs.Prelude.{◌≡◌, length};
 ghost use Rattle.layout.specs.Bands.{bands_of};
 ghost use Rattle.calls.specs.Orders.{block_number};

@@ -1,6 +1,7 @@
 // Replays recorded answers of the original Rust over the library, and prints how many were equal. Its standard input
 // is what `recorded write` in differential/ makes with seed 1; differential/recorded/FORMAT.md describes it.
 #![tactic(auto)]
+
 mod answers;
 mod counts;
 mod frames;

@@ -2,6 +2,7 @@
 // The orders are those of the module comment of the original's interleave.rs; tools/expected_reorderings.py has them
 // too.
 #![tactic(auto)]
+
 use interleave::Reordered;
 use layout::InterleaveMode;
 use printing::{print_bytes, print_letter, print_number, print_text};

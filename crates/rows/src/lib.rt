@@ -1,5 +1,6 @@
 // Several rows, or several bands of pixels, moved at once.
 #![tactic(auto)]
+
 ghost use Rattle.std.specs.Prelude.{◌≡◌, ℕ, ◌+◌, ◌*◌, ◌≤◌, ◌<◌, length};
 ghost use Rattle.samples.specs.Internal.Samples.{SamplesFit};
 ghost use Rattle.rows.specs.Internal.Rows.{Movable, rows_read, rows_written};

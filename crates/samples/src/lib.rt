@@ -1,5 +1,6 @@
 // Samples moved along a row: out of an image into lent data, and back.
 #![tactic(auto)]
+
 mod pack;
 pub mod read;
 mod unpack;

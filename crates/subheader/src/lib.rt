@@ -1,6 +1,7 @@
 // Three parts of an image subheader, as MIL-STD-2500C has their fields: NROWS to PJUST, IC, and IMODE to NBPP.
 
 #![tactic(auto)]
+
 mod read;
 mod write;
 

@@ -1,6 +1,7 @@
 // Three parts of an image subheader, changed byte by byte: each byte takes all 256 values while the others stay. Prints
 // the numbers that the reader answers. tools/expected_subheader.py made stdout.
 #![tactic(auto)]
+
 ghost use Rattle.std.specs.Prelude.{◌<◌};
 
 mod print;

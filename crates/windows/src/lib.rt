@@ -1,5 +1,6 @@
 // Reading a window: any rectangle of the picture, across blocks.
 #![tactic(auto)]
+
 ghost use Rattle.std.specs.Prelude.{◌≡◌};
 ghost use Rattle.layout.specs.Bands.{bands_of};
 ghost use Rattle.calls.specs.Orders.{window_number, rectangle};

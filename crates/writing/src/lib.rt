@@ -1,5 +1,6 @@
 // Writing a frame into a lent image, with a mark for each block that was written or skipped.
 #![tactic(auto)]
+
 ghost use Rattle.std.specs.Prelude.{◌≡◌};
 ghost use Rattle.calls.specs.Writes.{frame_out, number as plainAnswer, start as start_of};
 ghost use Rattle.calls.specs.Writes.{write, skip, progress as progressOf, finish};

@@ -64,12 +64,12 @@ pub mode_from_bytes_spec : {M : Type 1} → statement M
 mode_from_bytes_spec =
     tie.close
     (tie.spec
-        same-bytes-requires
+    same-bytes-requires
     returns
-        same-bytes-requires-2
+    same-bytes-requires-2
     returns-2
-        same-bytes-requires-3
+    same-bytes-requires-3
     returns-3
-        same-bytes-requires-4
+    same-bytes-requires-4
     returns-4
     returns-5)

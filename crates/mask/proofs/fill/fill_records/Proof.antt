@@ -75,12 +75,12 @@ loop-again c =
     let f = mark_record a.grid a.marks.now in
     let next = tabulate-turn f a.out.now l.k (omega (arith, in_table i)) l.invariant.1 l.invariant.2 in
     elim c.if-is_marked.branch [
-      then-is_marked w ↦
-        let t = next 0 c.if-is_marked.out (sym (pick_yes 0 0xFFFF_FFFF (sym e ∙ w.if-is_marked.true))) w.out-is in
-        (omega arith, t.0, t.1)
-    | else-is_marked w ↦
-        let t = next 0xFFFF_FFFF c.if-is_marked.out (sym (pick_no 0 0xFFFF_FFFF (sym e ∙ w.if-is_marked.false))) w.out-is in
-        (omega arith, t.0, t.1)
+      | then-is_marked w ↦
+          let t = next 0 c.if-is_marked.out (sym (pick_yes 0 0xFFFF_FFFF (sym e ∙ w.if-is_marked.true))) w.out-is in
+          (omega arith, t.0, t.1)
+      | else-is_marked w ↦
+          let t = next 0xFFFF_FFFF c.if-is_marked.out (sym (pick_no 0 0xFFFF_FFFF (sym e ∙ w.if-is_marked.false))) w.out-is in
+          (omega arith, t.0, t.1)
     ]
 
 same_length : tie.Need-shape_of-out invariant-loop decreases-loop

@@ -22,15 +22,15 @@ unfolding store_by
 cleared c =
     let a = c.args in
     elim c.if-not-is_byte_multiple.branch [
-      then-not-is_byte_multiple w ↦ (
+      | then-not-is_byte_multiple w ↦ (
         omega (arith, ap length w.image-is, w.clear_runs.auto),
         rw (no c.is_byte_multiple.ensures w.if-not-is_byte_multiple.true)
-        (ap (put_block a.layout a.«data».now) (w.image-is ∙ w.clear_runs.ensures)),
+            (ap (put_block a.layout a.«data».now) (w.image-is ∙ w.clear_runs.ensures)),
       )
-    | else-not-is_byte_multiple w ↦ (
+      | else-not-is_byte_multiple w ↦ (
         ap length w.image-is,
         rw (yes c.is_byte_multiple.ensures w.if-not-is_byte_multiple.false)
-        (ap (put_block a.layout a.«data».now) w.image-is),
+            (ap (put_block a.layout a.«data».now) w.image-is),
       )
     ]
 

@@ -37,8 +37,8 @@ pub from_bytes_spec : {M : Type 1} → statement M
 from_bytes_spec =
     tie.close
     (tie.spec
-        same-bytes-requires
+    same-bytes-requires
     returns
-        same-bytes-requires-2
+    same-bytes-requires-2
     returns-2
     returns-3)
