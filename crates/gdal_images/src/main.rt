@@ -4,12 +4,16 @@
 // tools/wide_image.py made the image with the wide block, and its lines.
 // tools/packed_images.py made the packed images, and their lines from what GDAL reads out of them.
 #![tactic(auto)]
+ghost use Rattle.std.specs.Prelude.{◌≤◌, length, IfOk};
 
 mod header;
 
 use crate::header::{image_end, image_start, subheader_of};
 use grid::Grid;
 use printing::{print_number, print_read, print_text};
+use std::fs::File;
+use std::io::Read;
+use std::{fs, io};
 
 // The most columns of an image that is printed as a whole.
 const MAX_COLUMNS: u32 = 19;
@@ -113,26 +117,37 @@ fn print_file(file: &[u8]) {
     print_image(&file[start..end], subheader.grid);
 }
 
-fn print_named(name: &[u8]) {
-    print_text(name);
-    print_text(b" ");
-    let fd = os::open_read(name);
-    if fd < 0 {
-        os::fail(name);
-        return;
+// The first bytes of a file, as many as `buf` holds, and their count.
+fn read_full(file: &mut File, buf: &mut [u8]) -> io::Result<usize>
+    ensures { IfOk result (λ n. n ≤ length buf.new) }
+{
+    let mut done = 0;
+    for _ in 0..u64::MAX {
+        let n = file.read(&mut buf[done..])?;
+        if n == 0 {
+            break;
+        }
+        done += n;
     }
-    let mut file = [0u8; 40000];
-    let n = io::read_full(fd, &mut file);
-    libc::close(fd);
-    print_file(&file[..n]);
+    Ok(done)
 }
 
-fn main() {
-    print_named(b"8.ntf");
-    print_named(b"16.ntf");
-    print_named(b"32.ntf");
-    print_named(b"64.ntf");
-    print_named(b"wide.ntf");
-    print_named(b"12.ntf");
-    print_named(b"4.ntf");
+fn print_named(rt: &HostRuntime, name: &str) -> io::Result<()> {
+    print_text(name.as_bytes());
+    print_text(b" ");
+    let mut file = fs::open(rt, name)?;
+    let mut bytes = [0u8; 40000];
+    let n = read_full(&mut file, &mut bytes)?;
+    print_file(&bytes[..n]);
+    Ok(())
+}
+
+fn main(rt: HostRuntime) -> io::Result<()> {
+    print_named(&rt, "8.ntf")?;
+    print_named(&rt, "16.ntf")?;
+    print_named(&rt, "32.ntf")?;
+    print_named(&rt, "64.ntf")?;
+    print_named(&rt, "wide.ntf")?;
+    print_named(&rt, "12.ntf")?;
+    print_named(&rt, "4.ntf")
 }
