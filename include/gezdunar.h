@@ -1,4 +1,4 @@
-/* Gezdunar: uncompressed NITF 2.1 image blocks. Link with libgezdunar.a, which `rt staticlib gezdunar` builds.
+/* Gezdunar: uncompressed NITF 2.1 image blocks. Link with libgezdunar.a, which `tools/build_archive` builds.
 
    A slice crosses as a pointer and a length in elements. Beside length 0 the pointer may be null: nothing is read or
    written through it. Buffers that are written must not overlap others of the same call.

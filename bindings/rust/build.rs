@@ -22,7 +22,7 @@ fn main() {
     if !archive.is_file() {
         eprintln!("There is no {}.", archive.display());
         eprintln!(
-            "Run `rt staticlib gezdunar` at the repository's root, or name the archive's directory in GEZDUNAR_LIB."
+            "Run `tools/build_archive` at the repository's root, or name the archive's directory in GEZDUNAR_LIB."
         );
         process::exit(1);
     }

@@ -1,4 +1,4 @@
-//! Uncompressed NITF 2.1 image blocks: safe calls over the proved library that `rt staticlib gezdunar` builds.
+//! Uncompressed NITF 2.1 image blocks: safe calls over the proved library that `tools/build_archive` builds.
 //!
 //! A picture is described by a [`Grid`]. [`ImageSubheader`] reads it from three parts of an image subheader, and writes
 //! it there. What such parts do not tell is the [`EdgeRule`], which must be known where the bits of a sample are no

@@ -4,6 +4,7 @@
 // tools/wide_image.py made the image with the wide block, and its lines.
 // tools/packed_images.py made the packed images, and their lines from what GDAL reads out of them.
 #![tactic(auto)]
+
 ghost use Rattle.std.specs.Prelude.{◌≤◌, length, IfOk};
 
 mod header;
