@@ -3,7 +3,7 @@
 #![tactic(auto)]
 
 ghost use Rattle.std.specs.Prelude.{◌≡◌, ◌*◌, min as lesser, leb};
-ghost use Rattle.common.specs.Tests.{within as isWithin, pick as picked};
+ghost use Rattle.common.specs.Tests.{within as is_within, pick as picked};
 ghost use Rattle.common.specs.Rounding.{ceil_div};
 
 pub mod clear;
@@ -34,7 +34,7 @@ pub fn product_fits(n: usize, m: usize, most: usize) -> bool
 
 // Is x from `lo` to `hi`?
 pub fn within(lo: u32, hi: u32, x: u32) -> bool
-    ensures { result ≡ isWithin lo hi x }
+    ensures { result ≡ is_within lo hi x }
 {
     if x < lo {
         return false;

@@ -2,7 +2,7 @@
 #![tactic(auto)]
 
 ghost use Rattle.std.specs.Prelude.{◌≡◌, true, ◌+◌, ◌≤◌, length};
-ghost use Rattle.fields.specs.Fields.{bytes_in, is_number, number_in, put, number, text as textEntry};
+ghost use Rattle.fields.specs.Fields.{bytes_in, is_number, number_in, put, number, text as text_entry};
 
 use bits::bytes::copy;
 use digits::{are_digits, number_of, put_digits};
@@ -86,7 +86,7 @@ impl Field {
     // Puts the field's text.
     pub fn put_text(self, part: &mut [u8], text: &[u8])
         requires { self.at + length text.now ≤ length part.old }
-        ensures { part.new ≡ put part.old (textEntry self text.now) }
+        ensures { part.new ≡ put part.old (text_entry self text.now) }
     {
         copy(text, 0, text.len(), part, self.at);
     }

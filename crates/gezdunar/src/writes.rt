@@ -1,6 +1,6 @@
 // Writing across the boundary.
 ghost use Rattle.std.specs.Prelude.{◌≡◌};
-ghost use Rattle.calls.specs.Writes.{frame_out, number as plainAnswer, start, write, skip, progress, finish};
+ghost use Rattle.calls.specs.Writes.{frame_out, number as plain_answer, start, write, skip, progress, finish};
 ghost use Rattle.gezdunar.specs.Boundary.{named_grid, on_grid};
 
 use crate::GridNumbers;
@@ -23,7 +23,7 @@ pub extern "C" fn gezdunar_start(
 ) -> Answer
     ensures { frame_out result image.new marks.new ≡ on_grid (named_grid numbers)
         (λ g. start g image.old marks.old)
-        (frame_out (plainAnswer 99) image.old marks.old) }
+        (frame_out (plain_answer 99) image.old marks.old) }
 {
     match named_grid(numbers) {
         NamedGrid::Known(grid) => writing::start(image, marks, grid),
@@ -47,7 +47,7 @@ pub extern "C" fn gezdunar_encode_block(
     ensures { frame_out result image.new marks.new ≡ on_grid (named_grid numbers)
         (λ g. write g image.old marks.old block_row block_col
         shape_bands shape_rows shape_columns «data».now)
-        (frame_out (plainAnswer 99) image.old marks.old) }
+        (frame_out (plain_answer 99) image.old marks.old) }
 {
     match named_grid(numbers) {
         NamedGrid::Known(grid) => writing::encode_block(
@@ -76,7 +76,7 @@ pub extern "C" fn gezdunar_skip_block(
 ) -> Answer
     ensures { frame_out result image.now marks.new ≡ on_grid (named_grid numbers)
         (λ g. skip g image.now marks.old block_row block_col)
-        (frame_out (plainAnswer 99) image.now marks.old) }
+        (frame_out (plain_answer 99) image.now marks.old) }
 {
     match named_grid(numbers) {
         NamedGrid::Known(grid) => writing::skip_block(image, marks, grid, block_row, block_col),
@@ -87,7 +87,7 @@ pub extern "C" fn gezdunar_skip_block(
 // How many blocks are marked.
 #[unsafe(no_mangle)]
 pub extern "C" fn gezdunar_progress(marks: &[u64], numbers: GridNumbers) -> Answer
-    ensures { result ≡ on_grid (named_grid numbers) (λ g. progress g marks.now) (plainAnswer 99) }
+    ensures { result ≡ on_grid (named_grid numbers) (λ g. progress g marks.now) (plain_answer 99) }
 {
     match named_grid(numbers) {
         NamedGrid::Known(grid) => writing::progress(marks, grid),
@@ -99,7 +99,7 @@ pub extern "C" fn gezdunar_progress(marks: &[u64], numbers: GridNumbers) -> Answ
 #[unsafe(no_mangle)]
 pub extern "C" fn gezdunar_finalize(image: &[u8], marks: &[u64], numbers: GridNumbers) -> Answer
     ensures { result ≡ on_grid (named_grid numbers)
-        (λ g. finish g image.now marks.now) (plainAnswer 99) }
+        (λ g. finish g image.now marks.now) (plain_answer 99) }
 {
     match named_grid(numbers) {
         NamedGrid::Known(grid) => writing::finalize(image, marks, grid),

@@ -1,7 +1,7 @@
 // Where a block and a sample lie in the image.
 ghost use Rattle.std.specs.Prelude.{◌≡◌};
 ghost use Rattle.grid.specs.Check.{Accepted};
-ghost use Rattle.grid.specs.Layout.{held as heldBy, place, block_end, Block, Sample};
+ghost use Rattle.grid.specs.Layout.{held as held_by, place, block_end, Block, Sample};
 ghost use Rattle.grid.specs.Internal.BlockLayouts.{layout_of, whole_span};
 
 use crate::{EdgeRule, Grid};
@@ -18,7 +18,7 @@ pub struct Span {
 // Of so many actual and so many nominal rows, or columns, those that a block's runs hold at widths that are no byte
 // multiples.
 fn held(edges: EdgeRule, actual: usize, nominal: usize) -> usize
-    ensures { result ≡ heldBy edges actual nominal }
+    ensures { result ≡ held_by edges actual nominal }
 {
     match edges {
         EdgeRule::Tight => actual,

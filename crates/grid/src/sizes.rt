@@ -1,6 +1,6 @@
 // Sizes of a grid and of its blocks.
 ghost use Rattle.std.specs.Prelude.{◌≡◌, true, ◌-◌, ◌*◌, ◌<◌, min};
-ghost use Rattle.grid.specs.Sizes.{sample_bytes, band_bytes, blocks as blockCount, image_bytes, block_index};
+ghost use Rattle.grid.specs.Sizes.{sample_bytes, band_bytes, blocks as block_count, image_bytes, block_index};
 ghost use Rattle.grid.specs.Sizes.{actual_rows, actual_columns, byte_multiple};
 ghost use Rattle.grid.specs.Check.{q1, q2, Accepted};
 ghost use Rattle.grid.specs.Layout.{Block};
@@ -63,7 +63,7 @@ impl Grid {
     // Blocks of the picture.
     pub fn blocks(self) -> usize
         requires { Accepted self }
-        ensures { result ≡ blockCount self }
+        ensures { result ≡ block_count self }
     {
         self.nbpr as usize * self.nbpc as usize
     }

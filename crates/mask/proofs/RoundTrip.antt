@@ -200,17 +200,17 @@ fits-written g mask n m l w =
     }
 
 -- a written table, with anything behind it, or nothing
-module _ (g : Grid) (mask : ImageDataMask) (blockOffsets padOffsets rest : List ℕ) (l : ℕ)
-    (zero : mask_write_number g mask (length blockOffsets) (length padOffsets) l ≡ 0)
+module _ (g : Grid) (mask : ImageDataMask) (block_offsets pad_offsets rest : List ℕ) (l : ℕ)
+    (zero : mask_write_number g mask (length block_offsets) (length pad_offsets) l ≡ 0)
   where
     abbrev table : List ℕ
-    table = table_bytes g mask blockOffsets padOffsets ++ rest
+    table = table_bytes g mask block_offsets pad_offsets ++ rest
 
     abbrev lists : List ℕ
-    lists = offset_bytes blockOffsets ++ (offset_bytes padOffsets ++ rest)
+    lists = offset_bytes block_offsets ++ (offset_bytes pad_offsets ++ rest)
 
-    facts : MaskWrite g mask (length blockOffsets) (length padOffsets) l
-    facts = mask_write-facts g mask (length blockOffsets) (length padOffsets) l zero
+    facts : MaskWrite g mask (length block_offsets) (length pad_offsets) l
+    facts = mask_write-facts g mask (length block_offsets) (length pad_offsets) l zero
 
     table_is : table ≡ headed (written_mask g mask) lists
     unfolding table_bytes
@@ -219,7 +219,7 @@ module _ (g : Grid) (mask : ImageDataMask) (blockOffsets padOffsets rest : List 
     table-length : length table ≡ mask_size g mask + length rest
     unfolding table_bytes
     table-length =
-        rw (size_is g mask (length blockOffsets) (length padOffsets) l facts)
+        rw (size_is g mask (length block_offsets) (length pad_offsets) l facts)
         (simp (length-append, length-be_bytes, length-values) (omega arith))
 
     header_is : HeaderIs (written_mask g mask) table
@@ -245,18 +245,18 @@ module _ (g : Grid) (mask : ImageDataMask) (blockOffsets padOffsets rest : List 
         rw (parse-yes g table accepted, h.offset, h.block, h.pad, h.code-length, h.code)
 
     -- where it has block records, each is the list's entry
-    module _ (four : mask.block_mask_record_length ≡ 4) (small : (k : ℕ) → get_or blockOffsets k 0 < 2 ^ 32)
+    module _ (four : mask.block_mask_record_length ≡ 4) (small : (k : ℕ) → get_or block_offsets k 0 < 2 ^ 32)
         (row column band : ℕ) (block : Block g row column) (in_band : band < g.bands)
       where
         abbrev entry : ℕ
-        entry = get_or blockOffsets (lookup_record g row column band) 0
+        entry = get_or block_offsets (lookup_record g row column band) 0
 
         pub lookup-written : record_of g table row column band ≡ entry
         unfolding block_record
         lookup-written =
             let k : ℕ = lookup_record g row column band in
-            let n : ℕ = length blockOffsets in
-            let v : ℕ → ℕ = λ i. get_or blockOffsets i 0 in
+            let n : ℕ = length block_offsets in
+            let v : ℕ → ℕ = λ i. get_or block_offsets i 0 in
             let e : n ≡ records g = facts.block-list ∙ pick_no 0 (records g) (rw four) in
             let h : k < n = rw e (lookup_lt g row column band block in_band) in
             ap (λ (c : ℕ). be_at table (10 + code_bytes c + k * 4) 4) header_is.code-length
@@ -283,11 +283,11 @@ module _ (g : Grid) (mask : ImageDataMask) (blockOffsets padOffsets rest : List 
 
 pub written_comes_back : WrittenComesBack
 unfolding to_bytes over
-written_comes_back g mask blockOffsets padOffsets out e =
-    let z : mask_write_number g mask (length blockOffsets) (length padOffsets) (length out) ≡ 0
+written_comes_back g mask block_offsets pad_offsets out e =
+    let z : mask_write_number g mask (length block_offsets) (length pad_offsets) (length out) ≡ 0
     = outcome-zero _ _ _ (λ (w : WrittenOut). w.answer.number) (λ n. refl) e in
     rw (outcome-yes _ (λ n. written_with (not_written n) out) z)
-    (written-parsed g mask blockOffsets padOffsets _ (length out) z)
+    (written-parsed g mask block_offsets pad_offsets _ (length out) z)
 
 -- ---- the records that the mask from marks fills
 

@@ -79,22 +79,22 @@ lengths-put offset mask d {o₁ = o₁} h e₁ e₂ e₃ e₄ =
     (front-next _ 2 f₃ (length-be_bytes 2 mask.pad_pixel_code_length) (omega arith) e₄).put
 
 -- the table, by these, the code and the two lists: what an accepted mask write leaves
-pub table-put : (g : Grid) (mask : ImageDataMask) (blockOffsets padOffsets d : List ℕ) {size code : ℕ}
-    {o₁ o₂ o₃ o₄ : List ℕ} → mask_write_number g mask (length blockOffsets) (length padOffsets) (length d) ≡ 0
+pub table-put : (g : Grid) (mask : ImageDataMask) (block_offsets pad_offsets d : List ℕ) {size code : ℕ}
+    {o₁ o₂ o₃ o₄ : List ℕ} → mask_write_number g mask (length block_offsets) (length pad_offsets) (length d) ≡ 0
     → size ≡ mask_size g mask → code ≡ code_bytes mask.pad_pixel_code_length
     → o₁ ≡ over d 0 (length_bytes size mask)
     → o₂ ≡ over o₁ 10 (be_bytes code mask.pad_pixel_code)
-    → o₃ ≡ over o₂ (10 + code) (offset_bytes blockOffsets)
-    → o₄ ≡ over o₃ (10 + code + length blockOffsets * 4) (offset_bytes padOffsets)
-    → written_with (record { number = 0; bytes = size }) o₄ ≡ to_bytes g mask blockOffsets padOffsets d
+    → o₃ ≡ over o₂ (10 + code) (offset_bytes block_offsets)
+    → o₄ ≡ over o₃ (10 + code + length block_offsets * 4) (offset_bytes pad_offsets)
+    → written_with (record { number = 0; bytes = size }) o₄ ≡ to_bytes g mask block_offsets pad_offsets d
 unfolding to_bytes outcome table_bytes
-table-put g mask blockOffsets padOffsets d {code = code} {o₁ = o₁} z s c e₁ e₂ e₃ e₄ =
-    let w = mask_write-facts g mask (length blockOffsets) (length padOffsets) (length d) z in
-    let room : 10 + code + length blockOffsets * 4 + length padOffsets * 4 ≤ length d =
+table-put g mask block_offsets pad_offsets d {code = code} {o₁ = o₁} z s c e₁ e₂ e₃ e₄ =
+    let w = mask_write-facts g mask (length block_offsets) (length pad_offsets) (length d) z in
+    let room : 10 + code + length block_offsets * 4 + length pad_offsets * 4 ≤ length d =
     omega (arith, table-room g mask _ _ _ w) in
     let ten : length (length_bytes (mask_size g mask) mask) ≡ 10 = simp (length-append, length-be_bytes) in
     let f₁ : Front d (length_bytes (mask_size g mask) mask) 10 o₁ = record { put = rw s at e₁; size = ten } in
     let f₂ = front-next _ code f₁ (length-be_bytes code mask.pad_pixel_code) (omega arith) e₂ in
-    let f₃ = front-next _ _ f₂ (length-values _ 4 (length blockOffsets)) (omega arith) e₃ in
-    let f₄ = front-next _ _ f₃ (length-values _ 4 (length padOffsets)) room e₄ in
+    let f₃ = front-next _ _ f₂ (length-values _ 4 (length block_offsets)) (omega arith) e₃ in
+    let f₄ = front-next _ _ f₃ (length-values _ 4 (length pad_offsets)) room e₄ in
     rw (z, s, f₄.put, c)

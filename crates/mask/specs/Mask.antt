@@ -54,7 +54,7 @@ q21 g mask = leb (mask_size g mask) 4_294_967_295
 
 -- the entries of an offset list, for records of this length: one a record, or none for length 0
 abbrev pub entries : Grid → ℕ → ℕ
-entries g recordLength = pick (eqb recordLength 0) 0 (records g)
+entries g record_length = pick (eqb record_length 0) 0 (records g)
 
 -- 22: have lists of n and m offsets the entries of their records
 abbrev pub q22 : Grid → ImageDataMask → ℕ → ℕ → Bool
@@ -187,11 +187,11 @@ not_written n = record { number = n; bytes = 0 }
 
 -- mask write: the table put at the front of the output
 unfoldable pub to_bytes : Grid → ImageDataMask → List ℕ → List ℕ → List ℕ → WrittenOut
-to_bytes g mask blockOffsets padOffsets out =
-    outcome (mask_write_number g mask (length blockOffsets) (length padOffsets) (length out))
+to_bytes g mask block_offsets pad_offsets out =
+    outcome (mask_write_number g mask (length block_offsets) (length pad_offsets) (length out))
     (written_with
     (record { number = 0; bytes = mask_size g mask })
-    (over out 0 (table_bytes g mask blockOffsets padOffsets)))
+    (over out 0 (table_bytes g mask block_offsets pad_offsets)))
     (λ n. written_with (not_written n) out)
 
 -- ---- the mask from marks

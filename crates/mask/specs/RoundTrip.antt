@@ -44,7 +44,7 @@ written_mask g mask =
 -- the output of an accepted write is parsed to the mask that was written
 abbrev pub WrittenComesBack : Type 0
 WrittenComesBack =
-    (g : Grid) (mask : ImageDataMask) (blockOffsets padOffsets out : List ℕ)
-    → (to_bytes g mask blockOffsets padOffsets out).answer.number ≡ 0
-    → parse g (to_bytes g mask blockOffsets padOffsets out).out
+    (g : Grid) (mask : ImageDataMask) (block_offsets pad_offsets out : List ℕ)
+    → (to_bytes g mask block_offsets pad_offsets out).answer.number ≡ 0
+    → parse g (to_bytes g mask block_offsets pad_offsets out).out
     ≡ record { number = 0; mask = written_mask g mask; used = mask_size g mask }

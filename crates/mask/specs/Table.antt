@@ -33,7 +33,7 @@ code_bytes n = ceil_div n 8
 
 -- the size of a table with these record lengths and code length
 unfoldable pub table_size : Grid → ℕ → ℕ → ℕ → ℕ
-table_size g blockLength padLength codeLength = 10 + code_bytes codeLength + records g * (blockLength + padLength)
+table_size g block_length pad_length code_length = 10 + code_bytes code_length + records g * (block_length + pad_length)
 
 -- the size of the table that a mask is the header of
 abbrev pub mask_size : Grid → ImageDataMask → ℕ
@@ -76,8 +76,8 @@ offset_bytes offsets = values (λ k. get_or offsets k 0) 4 (length offsets)
 
 -- the bytes of a table with its own size in IMDATOFF, from a mask and its two lists of offsets
 unfoldable pub table_bytes : Grid → ImageDataMask → List ℕ → List ℕ → List ℕ
-table_bytes g mask blockOffsets padOffsets =
+table_bytes g mask block_offsets pad_offsets =
     length_bytes (mask_size g mask) mask
     ++ be_bytes (code_bytes mask.pad_pixel_code_length) mask.pad_pixel_code
-    ++ offset_bytes blockOffsets
-    ++ offset_bytes padOffsets
+    ++ offset_bytes block_offsets
+    ++ offset_bytes pad_offsets

@@ -3,7 +3,7 @@ ghost use Rattle.std.specs.Prelude.{◌≡◌, ◌+◌, ◌≤◌, length};
 ghost use Rattle.bits.specs.Bits.{be_at};
 ghost use Rattle.grid.specs.Check.{Accepted};
 ghost use Rattle.mask.specs.Table.{header_with, mask_size};
-ghost use Rattle.mask.specs.Mask.{is_record_length, q17, no_mask, parse_number, parse as parseOf};
+ghost use Rattle.mask.specs.Mask.{is_record_length, q17, no_mask, parse_number, parse as parse_of};
 
 use crate::{ImageDataMask, Parsed, code_bytes, record_count};
 use bits::bytes::get_be;
@@ -110,7 +110,7 @@ impl ImageDataMask {
 
     // Reads the header and the pad code of a table, and counts the bytes that it takes.
     pub fn parse(table: &[u8], grid: Grid) -> Parsed
-        ensures { result ≡ parseOf grid table.now }
+        ensures { result ≡ parse_of grid table.now }
     {
         let number = Self::parse_number(table, grid);
         if number != 0 {

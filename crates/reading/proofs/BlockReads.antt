@@ -15,7 +15,7 @@ use Rattle.grid.specs.Sizes.{sample_bytes, actual_rows, actual_columns}
 use Rattle.grid.specs.Internal.BlockLayouts.{layout_of}
 use Rattle.grid.proofs.Accepted.{facts, rows-pos, columns-pos}
 use Rattle.grid.proofs.BlockLayouts.{place_is, end_is, sound}
-use Rattle.moves.specs.Internal.Parts.{PlanesReadable, planes_of, sample_at as sampleIn}
+use Rattle.moves.specs.Internal.Parts.{PlanesReadable, planes_of, sample_at as sample_in}
 use Rattle.calls.specs.Orders.{block_number}
 use Rattle.calls.specs.Reads.{no_shape, filled_with, bytes_of, sample_at, block_read}
 use Rattle.reading.proofs.BlockNumbers.{Read}
@@ -35,7 +35,7 @@ planes_are : (g : Grid) (image : List ℕ) (row column : ℕ) (bs : Bands) → 0
     → planes_of (layout_of g row column) image bs
     ≡ bytes_of (sample_bytes g) (band_count g.bands bs) (actual_rows g row) (actual_columns g column)
     (λ k r c. sample_at g image row column (band_at bs k) r c)
-unfolding planes_of bytes_of sample_at sampleIn
+unfolding planes_of bytes_of sample_at sample_in
 planes_are g image row column bs hr hc =
     values_ext _ _ (sample_bytes g) _ (λ n _.
     ap (λ (x : ℕ). bits_at image x g.nbpp) (sym (place_is g row column _ _ _ (mod-lt (n / actual_columns g column) hr) (mod-lt n hc))))

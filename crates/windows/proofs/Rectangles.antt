@@ -25,7 +25,7 @@ use Rattle.grid.specs.Layout.{Block}
 use Rattle.grid.specs.Internal.BlockLayouts.{layout_of}
 use Rattle.grid.proofs.BlockLayouts.{place_is, end_is, sound}
 use Rattle.moves.specs.declared.part.Part.{Part}
-use Rattle.moves.specs.Internal.Parts.{band_of, row_of, column_of, in_part, part_sample, Readable, whole_part, sample_at as sampleIn}
+use Rattle.moves.specs.Internal.Parts.{band_of, row_of, column_of, in_part, part_sample, Readable, whole_part, sample_at as sample_in}
 use Rattle.moves.proofs.Rect.{in_rect, Inside, inside, within_rect, outside, rect_part, no_rows}
 use Rattle.moves.proofs.Whole.{whole-yes, whole-no}
 use Rattle.windows.specs.Internal.Windows.{cut_of}
@@ -169,7 +169,7 @@ module _ (g : Grid) (n : ℕ) (w : Window) (m : ℕ) (q : Answerable g n w m) wh
     -- its numbers in the ordinary image are the picture's
     pub part-is-window : (image : List ℕ) (k : ℕ) → in_part (block_part g w i j) (band_count g.bands w.bands) w.rows w.columns k ≡ true
         → part_sample (layout_of g i j) image (block_part g w i j) w.bands w.rows w.columns k ≡ window_sample (picture_at g image) w k
-    unfolding part_sample window_sample sampleIn sample_at
+    unfolding part_sample window_sample sample_in sample_at
     part-is-window image k e =
         let p : Part = block_part g w i j in
         let t = inside _ _ _ _ _ w.rows w.columns k (rect_part p (band_count g.bands w.bands) w.rows w.columns k ∙ e) in

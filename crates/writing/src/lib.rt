@@ -2,8 +2,8 @@
 #![tactic(auto)]
 
 ghost use Rattle.std.specs.Prelude.{◌≡◌};
-ghost use Rattle.calls.specs.Writes.{frame_out, number as plainAnswer, start as start_of};
-ghost use Rattle.calls.specs.Writes.{write, skip, progress as progressOf, finish};
+ghost use Rattle.calls.specs.Writes.{frame_out, number as plain_answer, start as start_of};
+ghost use Rattle.calls.specs.Writes.{write, skip, progress as progress_of, finish};
 
 use calls::Answer;
 use grid::Grid;
@@ -17,7 +17,7 @@ use moves::store::store_block;
 
 // An answer that is only a number.
 fn answer(number: u32) -> Answer
-    ensures { result ≡ plainAnswer number }
+    ensures { result ≡ plain_answer number }
 {
     Answer {
         number,
@@ -99,7 +99,7 @@ pub fn skip_block(
 
 // How many blocks are marked.
 pub fn progress(marks: &[u64], grid: Grid) -> Answer
-    ensures { result ≡ progressOf grid marks.now }
+    ensures { result ≡ progress_of grid marks.now }
 {
     let number = marks_number(grid, marks.len());
     if number != 0 {
