@@ -1,6 +1,7 @@
 -- `gezdunar::names::named_mode` meets its contract.
 -- Assumes nothing.
-use mathlib.Core.Path.{sym, ap}
+use mathlib.Core.Path.{◌≡◌, sym, ap}
+use native.Mathlib.Omega.{arith}
 use borrow.Author.Rules.{rules}
 use Rattle.common.specs.Tests.{pick}
 use Rattle.gezdunar.specs.Boundary.{mode_of}
@@ -12,5 +13,5 @@ pub named_mode_spec : {M : Type 1} → statement M
 unfolding mode_of pick
 named_mode_spec =
     tie.close
-    (tie.spec (λ c. sym (ap mode_of c.if-byte-eq66.true)) (λ c. sym (ap mode_of c.if-byte-eq80.true))
-    (λ c. sym (ap mode_of c.if-byte-eq82.true)) (λ c. sym (ap mode_of c.if-byte-eq83.true)) (λ c. search (rules, no-letter)))
+    (tie.spec (λ c. let e : c.args.byte ≡ 66 = omega arith in sym (ap mode_of e)) (λ c. let e : c.args.byte ≡ 80 = omega arith in sym (ap mode_of e))
+    (λ c. let e : c.args.byte ≡ 82 = omega arith in sym (ap mode_of e)) (λ c. let e : c.args.byte ≡ 83 = omega arith in sym (ap mode_of e)) (λ c. search (rules, no-letter)))

@@ -1,6 +1,7 @@
 -- `gezdunar::names::named_rule` meets its contract.
 -- Assumes nothing.
-use mathlib.Core.Path.{sym, ap}
+use mathlib.Core.Path.{◌≡◌, sym, ap}
+use native.Mathlib.Omega.{arith}
 use borrow.Author.Rules.{rules}
 use Rattle.common.specs.Tests.{pick}
 use Rattle.gezdunar.specs.Boundary.{rule_of}
@@ -12,5 +13,5 @@ pub named_rule_spec : {M : Type 1} → statement M
 unfolding rule_of pick
 named_rule_spec =
     tie.close
-    (tie.spec (λ c. sym (ap rule_of c.if-byte-eq84.true)) (λ c. sym (ap rule_of c.if-byte-eq70.true))
+    (tie.spec (λ c. let e : c.args.byte ≡ 84 = omega arith in sym (ap rule_of e)) (λ c. let e : c.args.byte ≡ 70 = omega arith in sym (ap rule_of e))
     (λ c. search (rules, no_rule_letter)))
