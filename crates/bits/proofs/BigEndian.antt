@@ -8,7 +8,7 @@ use native.Mathlib.Decide.{ℕ_discrete, dec_lt}
 use native.Mathlib.Omega.{arith}
 use lib.Seq.{get_or-set_same, get_or-set_other, set_out}
 use lib.ListN.{length, get_or, set, length-append}
-use Rattle.bits.specs.Bits.{bit_at, bits_at, with_bit, with_field, set_bit, put_bits, Bytes, be_at, be_bytes}
+use Rattle.bits.specs.Bits.{bits_at, with_bit, with_field, set_bit, put_bits, Bytes, be_at, be_bytes}
 use Rattle.common.specs.Over.{over}
 use Rattle.bits.proofs.Bits.{with_field_lt, put_bits-add, put_bits_byte, bits_at_lt, bits_at-add, bits_at_byte}
 use Rattle.common.proofs.Over.{over_none, set-over, length_over, get_or-over-after}

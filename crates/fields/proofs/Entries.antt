@@ -9,7 +9,7 @@ use lib.ListN.{length, get_or, take, drop, length-take, length-drop}
 use lib.Seq.{ext_get_or, get_or-take, get_or-drop, drop-drop, length-take-le}
 use Rattle.common.specs.Over.{over}
 use Rattle.fields.specs.declared.Field.{Field}
-use Rattle.fields.specs.Fields.{field, bytes_in, Entry, put, put_all}
+use Rattle.fields.specs.Fields.{bytes_in, Entry, put, put_all}
 use Rattle.common.proofs.Over.{length_over, get_or-over_in, get_or-over-before}
 
 pub length-bytes_in : (part : List ℕ) (f : Field) → f.at + f.size ≤ length part → length (bytes_in part f) ≡ f.size

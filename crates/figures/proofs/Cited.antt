@@ -1,7 +1,6 @@
 -- Demand 3 at the figures' list of calls, under either edge rule: the calls tell what the plain frame tells.
 -- Assumes nothing.
 use mathlib.Core.Path.{◌≡◌, refl, ap₂}
-use mathlib.Core.List.{◌∷◌}
 use lib.ListN.{replicate}
 use Rattle.common.specs.Tests.{every, some, within}
 use Rattle.grid.specs.declared.EdgeRule.{EdgeRule}

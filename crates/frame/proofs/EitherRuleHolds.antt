@@ -17,7 +17,6 @@ use Rattle.grid.specs.Check.{q1, q3, q4, q6, q11}
 use Rattle.grid.specs.EdgeRules.{with_rule}
 use Rattle.grid.proofs.EdgeRules.{byte_multiples_lie_the_same, rule_moves_no-block}
 use Rattle.calls.specs.Orders.{Window, q10, crosses, q7_window, window_number, q13, q14, q26, start_number, write_number, skip_number, progress_number}
-use Rattle.calls.specs.Reads.{window}
 use Rattle.calls.specs.Writes as W
 use Rattle.frame.specs.Call.{Call, write, skip, progress, finish}
 use Rattle.frame.specs.Calls.{State, Step, Start, Called, step, call_all, started}

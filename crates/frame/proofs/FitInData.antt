@@ -8,14 +8,13 @@ use native.Mathlib.Omega.{arith}
 use native.Mathlib.Nat.{mod-lt, mod-eq_of_lt, div-add-mod', div-lt_iff_lt-mul, mul-div_cancel, zero-add}
 use borrow.Author.Tests.{ltb-true, lt-ltb}
 use lib.Arith.{digits_lt}
-use lib.Dec.{ltb}
 use lib.ListN.{length}
 use lib.Seq.{take_all}
 use Rattle.bits.specs.Bits.{be_at, Bytes}
 use Rattle.bits.specs.Values.{side_by_side}
 use Rattle.bits.proofs.Values.{values_ext, side-by-side}
 use Rattle.common.specs.Over.{over}
-use Rattle.common.specs.Tests.{all_below, pick}
+use Rattle.common.specs.Tests.{pick}
 use Rattle.common.proofs.Questions.{outcome-yes, outcome-zero}
 use Rattle.layout.specs.Bands.{band_count, band_at}
 use Rattle.common.proofs.Tests.{both_yes, below_at, all-below}

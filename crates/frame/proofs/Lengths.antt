@@ -1,6 +1,6 @@
 -- What a store keeps of the image, put by put and run by run; above all its length.
 -- Assumes nothing.
-use Prim.Native.Nat.{ℕ, ◌+◌, ◌≤◌, ◌<◌}
+use Prim.Native.Nat.{ℕ, ◌≤◌, ◌<◌}
 use mathlib.Core.Path.{◌≡◌, refl, ◌∙◌}
 use mathlib.Core.Bool.{Bool, true, false}
 use mathlib.Core.List.{List}
@@ -14,7 +14,7 @@ use Rattle.grid.specs.declared.Grid.{Grid}
 use Rattle.grid.specs.Sizes.{band_bytes, image_bytes, block_index, actual_rows, actual_columns, byte_multiple}
 use Rattle.grid.specs.Layout.{run_byte, place, Block, Sample}
 use Rattle.grid.proofs.SamplePlaces.{run_inside}
-use Rattle.calls.specs.Writes.{data_at, put_block, clear_runs, store_by, store_block, start}
+use Rattle.calls.specs.Writes.{data_at, put_block, clear_runs, store_by, store_block}
 use Rattle.common.proofs.Turns.{iter_keep}
 use Rattle.common.proofs.Loops.{iter3_keep}
 

@@ -1,7 +1,7 @@
 -- The image and the marks are functions of the plain frame: of the grid in force, the picture's numbers and the reached
 -- blocks, whatever the calls were and whatever the buffers held before the start.
 -- Assumes nothing.
-use Rattle.std.specs.Prelude.{ℕ, ◌+◌, ◌*◌, ◌≡◌, List, take}
+use Rattle.std.specs.Prelude.{ℕ, ◌≡◌, List, take}
 use Rattle.grid.specs.declared.Grid.{Grid}
 use Rattle.grid.specs.Sizes.{blocks, image_bytes}
 use Rattle.grid.specs.Layout.{Block}

@@ -14,7 +14,7 @@ use Rattle.bits.specs.Values.{values}
 use Rattle.bits.proofs.Values.{values_ext}
 use Rattle.layout.specs.declared.InterleaveMode.{InterleaveMode}
 use Rattle.layout.specs.declared.InterleaveMode.TheVariants.{S}
-use Rattle.common.specs.Tests.{some, pick}
+use Rattle.common.specs.Tests.{pick}
 use Rattle.common.specs.Rounding.{ceil_div}
 use Rattle.layout.specs.Order.{ordinal}
 use Rattle.layout.specs.Bands.{Bands, band_count, band_at}

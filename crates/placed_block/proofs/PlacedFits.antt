@@ -6,7 +6,6 @@ use mathlib.Core.List.{List}
 use Prim.Native.Nat.{ℕ, ◌^◌, ◌<◌}
 use native.Mathlib.Omega.{arith}
 use borrow.Author.Tests.{ltb-true}
-use Rattle.common.specs.Tests.{some}
 use Rattle.common.proofs.Tests.{below_at}
 use Rattle.bits.specs.Values.{side_by_side}
 use Rattle.layout.specs.Internal.Layout.{Sound, block_end}

@@ -1,12 +1,10 @@
 -- What the numbers of a block read and of a whole block tell where they are 0, and what the code computes on the way to them.
 -- Assumes nothing.
 use Prim.Native.Nat.{ℕ, ◌+◌, ◌*◌, ◌^◌, ◌≤◌, ◌<◌}
-use mathlib.Core.Path.{◌≡◌, ap, ◌∙◌}
+use mathlib.Core.Path.{◌≡◌}
 use mathlib.Core.Bool.{Bool, true}
-use native.Mathlib.Omega.{arith}
-use borrow.Author.Tests.{leb-true, eqb-true}
-use lib.Dec.{leb, lit<}
-use Rattle.common.specs.Questions.{ask}
+use borrow.Author.Tests.{leb-true}
+use lib.Dec.{lit<}
 use Rattle.common.proofs.Questions.{ask-inv}
 use Rattle.layout.specs.Bands.{Bands, band_count, q8, q9}
 use Rattle.layout.proofs.Places.{data_fits}

@@ -1,6 +1,6 @@
 -- `bits::field` meets its contract.
 -- Assumes nothing.
-use Prim.Native.Nat.{◌/◌, ◌-◌, ◌^◌}
+use Prim.Native.Nat.{◌/◌, ◌^◌}
 use native.Mathlib.Omega.{arith}
 use lib.Bits.{and_mask}
 use lib.Pow.{pow_pos}

@@ -5,8 +5,7 @@ use mathlib.Core.Path.{◌≡◌, sym, ap, ◌∙◌}
 use Prim.Native.Nat.{ℕ, ◌*◌, ◌/◌, ◌<◌}
 use native.Mathlib.Nat.{mul_assoc, mul_comm, div-le_self, div-mul-le_self}
 use native.Mathlib.Omega.{arith}
-use lib.Dec.{ltb}
-use lib.ListN.{length, get_or}
+use lib.ListN.{length}
 use Rattle.common.proofs.Flags.{no, yes}
 use Rattle.common.proofs.Tests.{below_more, below_less}
 use Rattle.fits.proofs.FirstBytes.{FoursIn, fours_in, size-pos, rest-same, none_before}

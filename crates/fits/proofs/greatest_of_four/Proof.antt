@@ -2,7 +2,7 @@
 -- Assumes nothing.
 use borrow.Author.Rules.{rules}
 use Prim.Native.Nat.{max}
-use mathlib.Core.Path.{◌≡◌, ap₂, ◌∙◌}
+use mathlib.Core.Path.{ap₂, ◌∙◌}
 use Rattle.fits.specs.Internal.Rows.{greatest_of_four}
 use Rattle.fits.proofs.greatest_of_four.Statement.{statement}
 use Rattle.fits.proofs.greatest_of_four.Tie as tie

@@ -6,7 +6,6 @@ use native.Mathlib.Nat.{mul-le-mul, mul-le-mul_right, add-zero, add_assoc, suc-m
 use native.Mathlib.Numerals.{add-one}
 use native.Mathlib.Omega.{arith}
 use borrow.Author.Rules.{rules}
-use borrow.Author.Tests.{not-true, not-false}
 use lib.Arith.{digits_lt}
 use Rattle.marks.specs.Marks.{marked}
 use Rattle.marks.proofs.First.{At, reaches, passes, stops, ends}

@@ -1,9 +1,9 @@
 -- `reading::block_number` meets its contract: each "no" gives its number.
 -- Assumes nothing.
 use borrow.Author.Rules.{rules}
-use mathlib.Core.Path.{◌≡◌, refl, sym, ap, ◌∙◌}
+use mathlib.Core.Path.{◌≡◌, sym, ap, ◌∙◌}
 use mathlib.Core.Bool.{Bool, true, false}
-use borrow.Author.Tests.{eq-eqb, ne_eqb, le-leb, lt-leb, not-true, not-false}
+use borrow.Author.Tests.{eq-eqb, ne_eqb, le-leb, lt-leb}
 use Rattle.common.specs.Questions.{ask}
 use Rattle.common.proofs.Flags.{no, yes}
 use Rattle.layout.specs.Bands.{bands_of}

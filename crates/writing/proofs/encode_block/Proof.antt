@@ -1,7 +1,7 @@
 -- `writing::encode_block` meets its contract.
 -- Assumes nothing.
 use borrow.Author.Rules.{rules}
-use mathlib.Core.Path.{◌≡◌, refl, sym, ◌∙◌}
+use mathlib.Core.Path.{◌≡◌, sym, ◌∙◌}
 use lib.ListN.{length}
 use Rattle.grid.specs.Layout.{Block}
 use Rattle.calls.specs.Writes.{unchanged, write}

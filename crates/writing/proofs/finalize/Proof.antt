@@ -1,12 +1,11 @@
 -- `writing::finalize` meets its contract.
 -- Assumes nothing.
 use borrow.Author.Rules.{rules}
-use mathlib.Core.Path.{◌≡◌, refl, sym, ap, ◌∙◌}
+use mathlib.Core.Path.{◌≡◌, sym, ap, ◌∙◌}
 use native.Mathlib.Omega.{arith}
 use lib.ListN.{length}
 use Rattle.grid.proofs.Accepted.{facts, across-pos}
-use Rattle.marks.specs.Marks.{marked}
-use Rattle.calls.specs.Writes.{number, unmarked_answer, finish_answer, finish}
+use Rattle.calls.specs.Writes.{number, unmarked_answer, finish}
 use Rattle.calls.specs.Orders.{start_number}
 use Rattle.calls.proofs.Numbers.{Enough, start-facts}
 use Rattle.common.specs.Questions.{outcome}

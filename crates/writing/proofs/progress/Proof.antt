@@ -1,13 +1,12 @@
 -- `writing::progress` meets its contract.
 -- Assumes nothing.
 use borrow.Author.Rules.{rules}
-use mathlib.Core.Path.{◌≡◌, refl, sym, ◌∙◌}
+use mathlib.Core.Path.{◌≡◌, sym, ◌∙◌}
 use native.Mathlib.Omega.{arith}
 use lib.ListN.{length}
 use Rattle.grid.specs.Check.{Accepted}
 use Rattle.grid.proofs.Accepted.{grid-inv, accepted_of}
-use Rattle.marks.specs.Marks.{marked}
-use Rattle.calls.specs.Writes.{number, progress_answer, progress}
+use Rattle.calls.specs.Writes.{number, progress}
 use Rattle.calls.specs.Orders.{progress_number}
 use Rattle.calls.proofs.Numbers.{progress-facts}
 use Rattle.common.specs.Questions.{outcome}

@@ -1,10 +1,10 @@
 -- `grid::Grid::block_layout` meets its contract.
 -- Assumes nothing.
-use mathlib.Core.Path.{◌≡◌, ap₂, ◌∙◌}
-use Prim.Native.Nat.{◌*◌, ◌≤◌}
+use mathlib.Core.Path.{◌≡◌}
+use Prim.Native.Nat.{◌*◌}
 use native.Mathlib.Omega.{arith}
 use native.Mathlib.Nat.{mul-le-mul_left}
-use Rattle.grid.specs.Sizes.{band_bytes, blocks, block_index, image_bytes}
+use Rattle.grid.specs.Sizes.{band_bytes, blocks, block_index}
 use Rattle.grid.specs.Internal.BlockLayouts.{first_byte}
 use Rattle.grid.proofs.Accepted.{facts, index_lt}
 use Rattle.grid.proofs.BlockLayouts.{runs_in}

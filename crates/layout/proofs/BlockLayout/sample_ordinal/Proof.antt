@@ -1,7 +1,7 @@
 -- `layout::BlockLayout::sample_ordinal` meets its contract.
 -- Assumes nothing.
 use borrow.Author.Rules.{rules}
-use mathlib.Core.Logic.{◌⊎◌, ⊎_elim}
+use mathlib.Core.Logic.{⊎_elim}
 use mathlib.Core.List.{[], ◌∷◌}
 use denote.Enum.Declared.{tag_of}
 use types.Run.{OneOf}

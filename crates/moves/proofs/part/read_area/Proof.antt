@@ -1,7 +1,7 @@
 -- `moves::part::read_area` meets its contract: each way of moving reads the samples of the area.
 -- Assumes nothing.
 use borrow.Author.Rules.{rules}
-use mathlib.Core.Path.{◌≡◌, sym, ◌∙◌}
+use mathlib.Core.Path.{◌≡◌, sym}
 use mathlib.Core.Bool.{false}
 use Prim.Native.Nat.{◌<◌}
 use native.Mathlib.Omega.{arith}

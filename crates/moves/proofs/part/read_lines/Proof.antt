@@ -1,7 +1,6 @@
 -- `moves::part::read_lines` meets its contract: the samples of k bands are read.
 -- Assumes nothing.
 use borrow.Author.Rules.{rules}
-use mathlib.Core.Path.{◌≡◌, ◌∙◌}
 use Prim.Native.Nat.{◌-◌, ◌≤◌, ◌<◌}
 use native.Mathlib.Omega.{arith}
 use Rattle.layout.specs.Bands.{bands_of, band_count}

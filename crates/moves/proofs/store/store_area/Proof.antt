@@ -1,6 +1,5 @@
 -- `moves::store::store_area` meets its contract: the samples of p parts of the bands are put.
 -- Assumes nothing.
-use mathlib.Core.Path.{◌≡◌}
 use Prim.Native.Nat.{◌-◌, ◌≤◌, ◌<◌}
 use native.Mathlib.Omega.{arith}
 use Rattle.moves.specs.Internal.Puts.{Puts}

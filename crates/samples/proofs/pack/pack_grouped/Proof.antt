@@ -5,7 +5,6 @@ use Prim.Native.Nat.{◌*◌, ◌/◌, ◌≤◌}
 use native.Mathlib.Omega.{arith}
 use Rattle.samples.proofs.Groups.{Groups, groups, put_rest, fit-part}
 use borrow.Author.Rules.{rules}
-use borrow.Author.Tests.{leb-true}
 use Rattle.samples.proofs.pack.pack_grouped.Statement.{statement}
 use Rattle.samples.proofs.pack.pack_grouped.Tie as tie
 

@@ -2,7 +2,6 @@
 -- Assumes nothing.
 use mathlib.Core.Path.{◌≡◌}
 use native.Mathlib.Omega.{arith}
-use borrow.Author.Tests.{eqb-true}
 use borrow.Author.Rules.{rules}
 use Rattle.samples.proofs.pack.pack_groups.Statement.{statement}
 use Rattle.samples.proofs.pack.pack_groups.Tie as tie
