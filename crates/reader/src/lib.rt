@@ -1,7 +1,6 @@
 // A reader holds the image slice and its grid together. Each of its calls asks all the questions of the entry point
-// that it
-// stands over, 1 to 4 about the grid first, so a reader of a refused grid refuses every read. `check` tells the grid's
-// number.
+// that it stands over, 1 to 4 about the grid first, so a reader of a refused grid refuses every read. `check` tells
+// the grid's number.
 #![tactic(auto)]
 
 ghost use Rattle.std.specs.Prelude.{◌≡◌, ◌+◌, length};

@@ -38,8 +38,7 @@ loop-less c = omega arith
 
 loop-again : tie.Need-loop-j-preserved invariant-loop decreases-loop
 loop-again c =
-    let i = c in
-    (omega arith, rw length-set i.loop-j.invariant.1, raised-turn _ _ _ _ _ _ (omega arith) i.loop-j.invariant.2 (rw c.greatest_of_four-b.ensures at c.larger.ensures))
+    (omega arith, rw length-set c.loop-j.invariant.1, raised-turn _ _ _ _ _ _ (omega arith) c.loop-j.invariant.2 (rw c.greatest_of_four-b.ensures at c.larger.ensures))
 
 same_length : tie.Need-shape_of-tops invariant-loop decreases-loop
 same_length c = omega arith

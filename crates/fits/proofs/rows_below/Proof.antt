@@ -52,8 +52,7 @@ loop-less c = omega arith
 
 loop-again : tie.Need-loop-k-preserved invariant-loop decreases-loop
 loop-again c =
-    let head = c in
-    (omega arith, omega (arith, c.raise.auto), tops_turn head.args.dat.now _ _ _ head.loop-k.invariant.2 c.raise.ensures)
+    (omega arith, omega (arith, c.raise.auto), tops_turn c.args.dat.now _ _ _ c.loop-k.invariant.2 c.raise.ensures)
 
 slice-aggregate-all-below : tie.Need-slice_bounds-all_below-end invariant-loop decreases-loop
 slice-aggregate-all-below c = sym c.loop-k.invariant.1
@@ -66,13 +65,11 @@ all-below-requires c κs =
 
 returns-2 : tie.Need-returns invariant-loop decreases-loop
 returns-2 c =
-    let head = c in
-    let start = head in
-    let a = start.args in
-    let all : head.loop-k.k * 4 ≡ a.fours * 4 = omega arith in
+    let a = c.args in
+    let all : c.loop-k.k * 4 ≡ a.fours * 4 = omega arith in
     c.all_below.ensures
-    ∙ rows_same a.dat.now head.loop-k.tops a.size a.in_row (a.fours * 4) a.limit start.requires.0 start.requires.2
-    (subst (TopsOf a.dat.now head.loop-k.tops) all head.loop-k.invariant.2)
+    ∙ rows_same a.dat.now c.loop-k.tops a.size a.in_row (a.fours * 4) a.limit c.requires.0 c.requires.2
+    (subst (TopsOf a.dat.now c.loop-k.tops) all c.loop-k.invariant.2)
     ∙ ap (λ (n : ℕ). all_below n (λ k. ltb (get_or a.dat.now (k * a.size) 0) a.limit)) (mul_assoc a.fours 4 a.in_row)
 
 pub rows_below_spec : {M : Type 1} → statement M

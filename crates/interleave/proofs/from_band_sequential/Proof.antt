@@ -29,10 +29,9 @@ refused-requires c κs = search rules
 
 returns : tie.Need-returns-then-number-ne0
 returns c =
-    let n = c in
-    let a = n.args in
+    let a = c.args in
     reorder-refused S a.to_mode every_band a.nrows a.ncols a.nbands a.bytes_per_pixel a.«data».now a.out.now
-    n.reorder_number-number.result c.refused.ensures n.reorder_number-number.ensures c.if-number-ne0.true
+    c.reorder_number-number.result c.refused.ensures c.reorder_number-number.ensures c.if-number-ne0.true
 
 from-planes-requires : tie.Need-from_planes-requires
 from-planes-requires c κs = search rules
@@ -44,10 +43,9 @@ returns-2 : tie.Need-returns
 unfolding band_count pick
 returns-2 c =
     let e = c.before.before.before.before in
-    let n = e in
-    let a = n.args in
-    reorder-accepted S a.to_mode every_band a.nrows a.ncols a.nbands a.bytes_per_pixel a.«data».now a.out.now n.reorder_number-number.result _ _
-    n.reorder_number-number.ensures e.if-number-ne0.false refl (asked e).full c.from_planes.ensures
+    let a = e.args in
+    reorder-accepted S a.to_mode every_band a.nrows a.ncols a.nbands a.bytes_per_pixel a.«data».now a.out.now e.reorder_number-number.result _ _
+    e.reorder_number-number.ensures e.if-number-ne0.false refl (asked e).full c.from_planes.ensures
 
 pub from_band_sequential_spec : {M : Type 1} → statement M
 from_band_sequential_spec =

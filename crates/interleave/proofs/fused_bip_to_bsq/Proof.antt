@@ -26,10 +26,9 @@ refused-requires c κs = search rules
 
 returns : tie.Need-returns-then-number-ne0
 returns c =
-    let n = c in
-    let a = n.args in
+    let a = c.args in
     reorder-refused P S (bands_of a.all a.bands.now) a.nrows a.ncols a.nbands a.bytes_per_pixel a.«data».now a.out.now
-    n.reorder_number-number.result c.refused.ensures n.reorder_number-number.ensures c.if-number-ne0.true
+    c.reorder_number-number.result c.refused.ensures c.reorder_number-number.ensures c.if-number-ne0.true
 
 to-planes-requires : tie.Need-to_planes-requires
 to-planes-requires c κs = search rules
@@ -50,10 +49,9 @@ returns-2 c =
     let b = c.before in
     let g = b.before.before.before in
     let e = g.before.before in
-    let n = e in
-    let a = n.args in
-    reorder-accepted P S (bands_of a.all a.bands.now) a.nrows a.ncols a.nbands a.bytes_per_pixel a.«data».now a.out.now n.reorder_number-number.result _ _
-    n.reorder_number-number.ensures e.if-number-ne0.false b.band_count-count.ensures
+    let a = e.args in
+    reorder-accepted P S (bands_of a.all a.bands.now) a.nrows a.ncols a.nbands a.bytes_per_pixel a.«data».now a.out.now e.reorder_number-number.result _ _
+    e.reorder_number-number.ensures e.if-number-ne0.false b.band_count-count.ensures
     (c.output_bytes.ensures ∙ ap (λ (k : ℕ). k * a.nrows * a.ncols * a.bytes_per_pixel) b.band_count-count.ensures)
     g.to_planes.ensures
 

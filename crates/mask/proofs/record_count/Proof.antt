@@ -18,8 +18,7 @@ cast-pick c = search rules
 
 mul-pick : tie.Need-overflow_mul-blocks
 mul-pick c =
-    let b = c in
-    rw b.blocks-blocks.ensures (omega (arith, (facts _ b.requires).slots_le))
+    rw c.blocks-blocks.ensures (omega (arith, (facts _ c.requires).slots_le))
 
 pick-requires : tie.Need-pick-requires
 pick-requires c κs = search rules
@@ -27,8 +26,7 @@ pick-requires c κs = search rules
 returns : tie.Need-returns
 unfolding records
 returns c =
-    let b = c in
-    rw (c.pick.ensures, c.bands_apart.ensures, b.blocks-blocks.ensures)
+    rw (c.pick.ensures, c.bands_apart.ensures, c.blocks-blocks.ensures)
 
 pub record_count_spec : {M : Type 1} → statement M
 record_count_spec =

@@ -32,8 +32,7 @@ placed-requires c κs = search rules
 
 store-block-requires : tie.Need-store_block-requires
 store-block-requires c κs =
-    let s = c in
-    rw c.placed.ensures (record { accepted = placed-sound; data_is = omega arith; image_holds = omega (arith, placed_end); fits = λ _. twelve-bits _ s.requires })
+    rw c.placed.ensures (record { accepted = placed-sound; data_is = omega arith; image_holds = omega (arith, placed_end); fits = λ _. twelve-bits _ c.requires })
 
 placed-requires-2 : tie.Need-placed-requires-2
 placed-requires-2 c κs = search rules
@@ -42,8 +41,7 @@ read-planes-requires : tie.Need-read_planes-requires
 unfolding band_count pick
 read-planes-requires c κs =
     let filed = c.before.before.before.before in
-    let b = filed in
-    rw c.placed-2.ensures (record { accepted = placed-sound; reached = omega (arith, placed_end); bands_in = yes b.bands_below.ensures b.if-not-bands_below.false; room = omega arith })
+    rw c.placed-2.ensures (record { accepted = placed-sound; reached = omega (arith, placed_end); bands_in = yes filed.bands_below.ensures filed.if-not-bands_below.false; room = omega arith })
 
 same_length : tie.Need-shape_of-file
 same_length c = search rules

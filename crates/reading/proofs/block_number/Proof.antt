@@ -117,8 +117,7 @@ q9-is : (c : tie.After-product_fits)
     c.product_fits.result ≡ room_for a.grid a.block_row a.block_col (bands_of a.all a.bands.now) a.room
 q9-is c =
     let n = c.before in
-    let s = n in
-    rw (s.actual_rows.ensures, s.actual_columns.ensures, s.sample_bytes.ensures, n.band_count.ensures) at
+    rw (n.actual_rows.ensures, n.actual_columns.ensures, n.sample_bytes.ensures, n.band_count.ensures) at
     c.product_fits.ensures
     ∙ room-is _ _ _ _ _
 

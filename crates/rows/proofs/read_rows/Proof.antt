@@ -39,16 +39,14 @@ row_in : (c : tie.In-loop-i invariant-loop decreases-loop)
     Movable (length a.src.now) (a.at + c.loop-i.i * a.row) a.step a.width a.size a.count
     × Ends c.loop-i.i a.rows a.row a.line
 row_in c =
-    let s = c in
-    (s.requires.1.0 c.loop-i.i c.loop-i-test.true, ends c.loop-i.i _ _ _ c.loop-i-test.true)
+    (c.requires.1.0 c.loop-i.i c.loop-i-test.true, ends c.loop-i.i _ _ _ c.loop-i-test.true)
 
 mul-if2 : tie.Need-overflow_mul-count invariant-loop decreases-loop
 mul-if2 c = let p = c.requires.1 in omega (arith, (p.0 0 p.1.0).fits)
 
 mul-if3 : tie.Need-overflow_mul-count-then-row-count invariant-loop decreases-loop
 mul-if3 c =
-    let s = c in
-    omega (arith, s.requires.1.1, last_row _ s.args.line s.requires.1.1.0)
+    omega (arith, c.requires.1.1, last_row _ c.args.line c.requires.1.1.0)
 
 mul-read-samples : tie.Need-overflow_mul-rows invariant-loop decreases-loop
 mul-read-samples c = omega (arith, (one c).2)
@@ -72,10 +70,9 @@ mul-if4 c = omega (arith, c.requires.0.1)
 
 whole-rows-requires : tie.Need-whole_rows-requires invariant-loop decreases-loop
 whole-rows-requires c κs =
-    let b = c in
-    let p = b.requires in (
-      (p.0.1, b.if-count-gt0.true, p.1.1.0),
-      (rows_end _ _ _ _ _ _ _ _ b.if-width-size.true p.1.0 p.1.1.0, p.1.1.1),
+    let p = c.requires in (
+      (p.0.1, c.if-count-gt0.true, p.1.1.0),
+      (rows_end _ _ _ _ _ _ _ _ c.if-width-size.true p.1.0 p.1.1.0, p.1.1.1),
     )
 
 same-length-2 : tie.Need-shape_of-out-then-count-gt0 invariant-loop decreases-loop
@@ -83,8 +80,7 @@ same-length-2 c = search rules
 
 returns-2 : tie.Need-returns-then-count-gt0 invariant-loop decreases-loop
 returns-2 c =
-    let b = c in
-    rows-read _ _ _ _ _ _ _ _ b.if-width-size.true b.requires.1.0 _ _ _ _
+    rows-read _ _ _ _ _ _ _ _ c.if-width-size.true c.requires.1.0 _ _ _ _
     c.whole_rows.ensures
 
 loop-holds : tie.Need-loop-i-init invariant-loop decreases-loop
@@ -104,9 +100,8 @@ add-read-samples-2 c = omega (arith, (row_in c.before).1)
 
 read-samples-requires-2 : tie.Need-read_samples-requires-in-loop-i invariant-loop decreases-loop
 read-samples-requires-2 c κs =
-    let s = c in
     let r = row_in c.before in
-    (s.requires.0, (r.0.whole, (r.0.fits, r.0.inside, omega (arith, s.requires.1.1.1, r.1))))
+    (c.requires.0, (r.0.whole, (r.0.fits, r.0.inside, omega (arith, c.requires.1.1.1, r.1))))
 
 add-i : tie.Need-overflow_step-i invariant-loop decreases-loop
 add-i c = omega arith
@@ -116,11 +111,10 @@ loop-less c = omega arith
 
 loop-again : tie.Need-loop-i-preserved invariant-loop decreases-loop
 loop-again c =
-    let call = c.before.before in
-    let head = call in (
+    let call = c.before.before in (
       omega arith,
       omega (arith, call.read_samples-in-loop-i.auto),
-      iter_turn _ _ head.loop-i.i head.loop-i.invariant.2 call.read_samples-in-loop-i.ensures,
+      iter_turn _ _ call.loop-i.i call.loop-i.invariant.2 call.read_samples-in-loop-i.ensures,
     )
 
 same-length-3 : tie.Need-shape_of-out invariant-loop decreases-loop

@@ -40,16 +40,14 @@ row_in : (c : tie.In-loop-i invariant-loop decreases-loop)
     Movable (length a.img.now) (a.at + c.loop-i.i * a.row) a.step a.width a.size a.count
     × Ends c.loop-i.i a.rows a.row a.line
 row_in c =
-    let s = c in
-    (s.requires.1.0 c.loop-i.i c.loop-i-test.true, ends c.loop-i.i _ _ _ c.loop-i-test.true)
+    (c.requires.1.0 c.loop-i.i c.loop-i-test.true, ends c.loop-i.i _ _ _ c.loop-i-test.true)
 
 mul-if2 : tie.Need-overflow_mul-count invariant-loop decreases-loop
 mul-if2 c = let p = c.requires.1 in omega (arith, (p.0 0 p.1.0.0).fits)
 
 mul-if3 : tie.Need-overflow_mul-count-then-row-count invariant-loop decreases-loop
 mul-if3 c =
-    let s = c in
-    omega (arith, s.requires.1.1.0, last_row _ s.args.line s.requires.1.1.0.0)
+    omega (arith, c.requires.1.1.0, last_row _ c.args.line c.requires.1.1.0.0)
 
 mul-write-samples : tie.Need-overflow_mul-rows invariant-loop decreases-loop
 mul-write-samples c = omega (arith, (one c.before).2)
@@ -71,8 +69,7 @@ same_length c = search rules
 
 returns : tie.Need-returns-then-line-count invariant-loop decreases-loop
 returns c =
-    let b = c in
-    written_as_one _ _ _ _ _ _ _ b.if-row-count.true b.if-line-count.true _ _
+    written_as_one _ _ _ _ _ _ _ c.if-row-count.true c.if-line-count.true _ _
     c.write_samples.ensures
 
 mul-if5 : tie.Need-overflow_mul-size invariant-loop decreases-loop
@@ -80,9 +77,8 @@ mul-if5 c = omega (arith, c.requires.0.1)
 
 copy-rows-requires : tie.Need-copy_rows-requires invariant-loop decreases-loop
 copy-rows-requires c κs =
-    let b = c in
-    let p = b.requires.1 in
-    (p.1.0, rows-end-beside _ _ _ _ _ _ _ _ b.if-width-size.true p.0 b.if-step-width.true p.1.0.0)
+    let p = c.requires.1 in
+    (p.1.0, rows-end-beside _ _ _ _ _ _ _ _ c.if-width-size.true p.0 c.if-step-width.true p.1.0.0)
 
 same-length-2 : tie.Need-shape_of-img-then-width-size invariant-loop decreases-loop
 same-length-2 c = search rules
@@ -90,10 +86,9 @@ same-length-2 c = search rules
 returns-2 : tie.Need-returns-then-width-size invariant-loop decreases-loop
 returns-2 c =
     let b = c.before.before.before.before in
-    let known = b in
-    rows_written_lem _ _ _ _ _ _ _ _ b.if-width-size.true known.requires.1.0
-    b.if-step-width.true _ _ _ _ (λ i. (known.shared_slice_known-1.given i).fits)
-    (λ i. (known.slice_known-1.given i).fits) (omega arith) c.copy_rows.ensures
+    rows_written_lem _ _ _ _ _ _ _ _ b.if-width-size.true b.requires.1.0
+    b.if-step-width.true _ _ _ _ (λ i. (b.shared_slice_known-1.given i).fits)
+    (λ i. (b.slice_known-1.given i).fits) (omega arith) c.copy_rows.ensures
 
 loop-holds : tie.Need-loop-i-init invariant-loop decreases-loop
 loop-holds c = (omega arith, refl, iter-none _ _)
@@ -112,15 +107,14 @@ add-write-samples-2 c = omega (arith, (row_in c.before).0.fits)
 
 write-samples-requires-2 : tie.Need-write_samples-requires-in-loop-i invariant-loop decreases-loop
 write-samples-requires-2 c κs =
-    let s = c in
-    let p = s.requires.0 in
+    let p = c.requires.0 in
     let r = row_in c.before in (
-      (p.0, p.1, omega (arith, s.requires.1.1.0.1, r.1)),
+      (p.0, p.1, omega (arith, c.requires.1.1.0.1, r.1)),
       (
         r.0.whole,
         (
           (r.0.fits, omega (arith, r.0.inside, c.loop-i.invariant.1)),
-          λ l. s.requires.1.1.1 l c.loop-i.i c.loop-i-test.true,
+          λ l. c.requires.1.1.1 l c.loop-i.i c.loop-i-test.true,
         ),
       ),
     )
@@ -133,11 +127,10 @@ loop-less c = omega arith
 
 loop-again : tie.Need-loop-i-preserved invariant-loop decreases-loop
 loop-again c =
-    let call = c.before.before in
-    let head = call in (
+    let call = c.before.before in (
       omega arith,
       omega (arith, call.write_samples-in-loop-i.auto),
-      iter_turn _ _ head.loop-i.i head.loop-i.invariant.2 call.write_samples-in-loop-i.ensures,
+      iter_turn _ _ call.loop-i.i call.loop-i.invariant.2 call.write_samples-in-loop-i.ensures,
     )
 
 same-length-3 : tie.Need-shape_of-img invariant-loop decreases-loop

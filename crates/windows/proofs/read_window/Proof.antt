@@ -34,11 +34,10 @@ same_length c = search rules
 returns-2 : tie.Need-returns
 returns-2 c =
     let read = c.before.before.before in
-    let passed = read in
-    let a = passed.args in
+    let a = read.args in
     rw c.band_count.ensures
     (window-read a.grid a.image.now (rectangle a.row a.column a.rows a.columns (bands_of a.all a.bands.now)) a.out.now
-    (sym passed.window_number-number.ensures ∙ passed.if-number-ne0.false) read.read_rectangle.ensures)
+    (sym read.window_number-number.ensures ∙ read.if-number-ne0.false) read.read_rectangle.ensures)
 
 pub read_window_spec : {M : Type 1} → statement M
 read_window_spec =

@@ -37,10 +37,9 @@ answer-requires c κs = search rules
 returns : tie.Need-returns-then-number-ne0
 unfolding write
 returns c =
-    let asked = c in
-    let a = asked.args in
+    let a = c.args in
     rw c.answer.ensures
-    (refused-by _ (unchanged a.image.now a.marks.now) asked.write_number-number.ensures c.if-number-ne0.true)
+    (refused-by _ (unchanged a.image.now a.marks.now) c.write_number-number.ensures c.if-number-ne0.true)
 
 block-layout-requires : tie.Need-block_layout-requires
 block-layout-requires c κs = let k = enough c.before in (k.0.accepted, k.1)

@@ -14,11 +14,10 @@ bytes-in-requires c κs = search rules
 
 number-of-requires : tie.Need-number_of-requires
 number-of-requires c κs =
-    let s = c in
     let e = c.bytes_in.ensures in
-    let l : length c.bytes_in.result.now ≡ s.args.self.size =
-    ap length e ∙ length-bytes_in s.args.part.now s.args.self s.requires.0.0 in
-    (omega (arith, l, s.requires.0.1), ap are_digits e ∙ s.requires.1)
+    let l : length c.bytes_in.result.now ≡ c.args.self.size =
+    ap length e ∙ length-bytes_in c.args.part.now c.args.self c.requires.0.0 in
+    (omega (arith, l, c.requires.0.1), ap are_digits e ∙ c.requires.1)
 
 returns : tie.Need-returns
 returns c = c.number_of.ensures ∙ ap number_of c.bytes_in.ensures

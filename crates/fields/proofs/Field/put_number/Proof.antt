@@ -35,15 +35,14 @@ same_length c = search rules
 returns : tie.Need-returns
 unfolding bytes_in
 returns c =
-    let s = c in
-    let f = s.args.self in
-    let d : List ℕ = s.args.part.now in
+    let f = c.args.self in
+    let d : List ℕ = c.args.part.now in
     let e : f.at + f.size - f.at ≡ f.size = omega arith in
-    let n : length (take (f.at + f.size - f.at) (drop f.at d)) ≡ f.size = rw e (length-bytes_in d f s.requires) in
+    let n : length (take (f.at + f.size - f.at) (drop f.at d)) ≡ f.size = rw e (length-bytes_in d f c.requires) in
     let v : List ℕ = c.put_digits.new.out in
-    let q : v ≡ digit_bytes f.size s.args.value = c.put_digits.ensures ∙ ap (λ (k : ℕ). digit_bytes k s.args.value) n in
+    let q : v ≡ digit_bytes f.size c.args.value = c.put_digits.ensures ∙ ap (λ (k : ℕ). digit_bytes k c.args.value) n in
     ap (λ (k : ℕ). take f.at d ++ (v ++ drop k (drop f.at d))) e
-    ∙ put-part d f.at f.size v (ap length q ∙ length-digit_bytes f.size s.args.value) ∙ ap (over d f.at) q
+    ∙ put-part d f.at f.size v (ap length q ∙ length-digit_bytes f.size c.args.value) ∙ ap (over d f.at) q
 
 pub put_number_spec : {M : Type 1} → statement M
 put_number_spec =

@@ -21,9 +21,8 @@ same-bytes-requires c κs = search rules
 
 returns : tie.Need-returns
 returns c =
-    let text = c in
-    let xs = text.args.bytes.now in
-    c.same_bytes.ensures ∙ ap (same_bytes xs) (text.mode_to_bytes-text.ensures ∙ ap imode_text text.mode_from_bytes.ensures) ∙ named_by imode_text xs _ _
+    let xs = c.args.bytes.now in
+    c.same_bytes.ensures ∙ ap (same_bytes xs) (c.mode_to_bytes-text.ensures ∙ ap imode_text c.mode_from_bytes.ensures) ∙ named_by imode_text xs _ _
 
 pub mode_is_named_spec : {M : Type 1} → statement M
 mode_is_named_spec =

@@ -32,10 +32,9 @@ shared-slice-read-if2-2 c = omega arith
 
 returns-2 : tie.Need-returns-then-a-j invariant-loop decreases-loop
 returns-2 c =
-    let l = c in
-    let xs : List ℕ = l.args.a.now in
-    let ys : List ℕ = l.args.b.now in
-    sym (sym l.loop-j.invariant.3 ∙ same_stop xs ys l.loop-j.j (omega arith) (omega (arith, l.loop-j.invariant.2)) c.if-a-j.true)
+    let xs : List ℕ = c.args.a.now in
+    let ys : List ℕ = c.args.b.now in
+    sym (sym c.loop-j.invariant.3 ∙ same_stop xs ys c.loop-j.j (omega arith) (omega (arith, c.loop-j.invariant.2)) c.if-a-j.true)
 
 add-j : tie.Need-overflow_step-j invariant-loop decreases-loop
 add-j c = omega arith
@@ -45,21 +44,19 @@ loop-less c = omega arith
 
 loop-again : tie.Need-loop-j-preserved invariant-loop decreases-loop
 loop-again c =
-    let l = c in
-    let xs : List ℕ = l.args.a.now in
-    let ys : List ℕ = l.args.b.now in
-    let go = same-go xs ys l.loop-j.j (omega arith) (omega (arith, l.loop-j.invariant.2)) c.if-a-j.false in
-    (omega arith, refl, l.loop-j.invariant.2, go ∙ l.loop-j.invariant.3)
+    let xs : List ℕ = c.args.a.now in
+    let ys : List ℕ = c.args.b.now in
+    let go = same-go xs ys c.loop-j.j (omega arith) (omega (arith, c.loop-j.invariant.2)) c.if-a-j.false in
+    (omega arith, refl, c.loop-j.invariant.2, go ∙ c.loop-j.invariant.3)
 
 returns-3 : tie.Need-returns invariant-loop decreases-loop
 unfolding same_bytes
 returns-3 c =
-    let l = c in
-    let xs : List ℕ = l.args.a.now in
-    let ys : List ℕ = l.args.b.now in
-    let e : l.loop-j.j ≡ length xs = omega arith in
-    let f : l.loop-j.j ≡ length ys = omega (arith, l.loop-j.invariant.2) in
-    sym (sym l.loop-j.invariant.3 ∙ ap₂ same_bytes (ap (λ (n : ℕ). drop n xs) e ∙ drop-length xs) (ap (λ (n : ℕ). drop n ys) f ∙ drop-length ys))
+    let xs : List ℕ = c.args.a.now in
+    let ys : List ℕ = c.args.b.now in
+    let e : c.loop-j.j ≡ length xs = omega arith in
+    let f : c.loop-j.j ≡ length ys = omega (arith, c.loop-j.invariant.2) in
+    sym (sym c.loop-j.invariant.3 ∙ ap₂ same_bytes (ap (λ (n : ℕ). drop n xs) e ∙ drop-length xs) (ap (λ (n : ℕ). drop n ys) f ∙ drop-length ys))
 
 pub same_bytes_spec : {M : Type 1} → statement M
 same_bytes_spec =

@@ -11,8 +11,7 @@ use Rattle.gezdunar.proofs.sizes.sizes_of.Tie as tie
 mark-words-requires : tie.Need-mark_words-requires
 mark-words-requires c κs =
     let counted = c.before.before.before.before in
-    let checked = counted in
-    let grid = facts _ (sym checked.check-number.ensures ∙ checked.if-number-ne0.false) in
+    let grid = facts _ (sym counted.check-number.ensures ∙ counted.if-number-ne0.false) in
     rw counted.blocks-blocks.ensures (omega (arith, grid.blocks-le))
 
 pub sizes_of_spec : {M : Type 1} → statement M

@@ -34,10 +34,9 @@ grid-in-requires c κs = search rules
 returns : tie.Need-returns
 returns c =
     let ic = c.before.before.before in
-    let pjust = ic in
     rw (
-      pjust.from_bytes.ensures,
-      pjust.from_bytes-2.ensures,
+      ic.from_bytes.ensures,
+      ic.from_bytes-2.ensures,
       ic.from_bytes-3.ensures,
       c.grid_in.ensures,
       c.mode_from_bytes.ensures,

@@ -35,8 +35,7 @@ unfolding write_under
 returns-2 c =
     let write = c.before.before.before.before.before.before in
     let fields = write.before.before.before.before in
-    let named = fields in
-    write.write.ensures ∙ rw fields.fields_of.ensures (sym (pick_yes _ _ (yes named.are_named.ensures named.if-not-are_named.false)))
+    write.write.ensures ∙ rw fields.fields_of.ensures (sym (pick_yes _ _ (yes fields.are_named.ensures fields.if-not-are_named.false)))
 
 pub write_under_spec : {M : Type 1} → statement M
 write_under_spec =

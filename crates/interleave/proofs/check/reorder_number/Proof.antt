@@ -87,8 +87,7 @@ cast-pixel c = search rules
 
 mul-pixel : tie.Need-overflow_mul-pixel
 mul-pixel c =
-    let d = c in
-    let p = d.args.shape in
+    let p = c.args.shape in
     omega (arith, prod_le p.bands p.size 4_294_967_295 8 (omega arith) (omega arith))
 
 product-fits-requires : tie.Need-product_fits-requires

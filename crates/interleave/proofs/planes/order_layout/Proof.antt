@@ -18,7 +18,7 @@ mul-plane : tie.Need-overflow_mul-plane
 mul-plane c = let p = c.args.shape in omega (arith, prod_le p.rows p.columns 4_294_967_295 4_294_967_295 (omega arith) (omega arith))
 
 mul-plane-2 : tie.Need-overflow_mul-plane-2
-mul-plane-2 c = let s = c in let p = s.args.shape in omega (arith, s.requires.2, times-le p.bands (p.rows * p.columns * p.size) s.requires.0)
+mul-plane-2 c = let p = c.args.shape in omega (arith, c.requires.2, times-le p.bands (p.rows * p.columns * p.size) c.requires.0)
 
 cast-t7 : tie.Need-overflow_cast-result
 cast-t7 c = search rules

@@ -31,8 +31,7 @@ is-empty-requires c κs = search rules
 
 returns : tie.Need-returns-then-is_empty
 returns c =
-    let asked = c in
-    let a = asked.args in
+    let a = c.args in
     no-samples _ _ _ a.out.now (rw (← c.band_count.ensures) (eqb-true _ _ (sym c.is_empty.ensures ∙ c.if-is_empty.true)))
 
 order-layout-requires : tie.Need-order_layout-layout-requires

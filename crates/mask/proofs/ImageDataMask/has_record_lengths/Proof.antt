@@ -20,8 +20,7 @@ is-record-length-requires-2 c κs = search rules
 returns-2 : tie.Need-returns
 unfolding every
 returns-2 c =
-    let block = c in
-    rw (yes block.is_record_length.ensures block.if-not-is_record_length.false, c.is_record_length-2.ensures) (every-last _)
+    rw (yes c.is_record_length.ensures c.if-not-is_record_length.false, c.is_record_length-2.ensures) (every-last _)
 
 pub has_record_lengths_spec : {M : Type 1} → statement M
 has_record_lengths_spec =

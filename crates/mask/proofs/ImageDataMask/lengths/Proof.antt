@@ -19,8 +19,7 @@ read-two-requires-3 c κs = search rules
 returns : tie.Need-returns
 returns c =
     let pad = c.before in
-    let block = pad in
-    rw (block.read_four.ensures, block.read_two.ensures, pad.read_two-2.ensures, c.read_two-3.ensures)
+    rw (pad.read_four.ensures, pad.read_two.ensures, pad.read_two-2.ensures, c.read_two-3.ensures)
 
 pub lengths_spec : {M : Type 1} → statement M
 lengths_spec =

@@ -16,8 +16,7 @@ pick-requires c κs = search rules
 returns : tie.Need-returns-then-blocks-pick
 unfolding every
 returns c =
-    let wanted = c in
-    rw (← wanted.record_count-records.ensures, ← wanted.pick.ensures, ne_eqb _ _ c.if-blocks-pick.true)
+    rw (← c.record_count-records.ensures, ← c.pick.ensures, ne_eqb _ _ c.if-blocks-pick.true)
 
 pick-requires-2 : tie.Need-pick-requires-2
 pick-requires-2 c κs = search rules
@@ -26,10 +25,9 @@ returns-2 : tie.Need-returns
 unfolding every
 returns-2 c =
     let blocks = c.before.before in
-    let wanted = blocks in
     rw (
-      ← wanted.record_count-records.ensures,
-      ← wanted.pick.ensures,
+      ← blocks.record_count-records.ensures,
+      ← blocks.pick.ensures,
       eq-eqb _ _ blocks.if-blocks-pick.false,
       ← c.pick-2.ensures,
     )

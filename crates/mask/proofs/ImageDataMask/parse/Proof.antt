@@ -33,9 +33,8 @@ done g table z m u = rw (z, m, u)
 
 -- the code's bytes
 code_in : (c : tie.After-code_bytes-size)
-    → let h = c in
-    let n = c.code_bytes-size.result in
-    (n ≤ 4) × (10 + n ≤ length h.args.table.now)
+    → let n = c.code_bytes-size.result in
+    (n ≤ 4) × (10 + n ≤ length c.args.table.now)
 code_in c =
     let l = c.before.before in
     rw (c.code_bytes-size.ensures, l.lengths-mask.ensures) (code_inside _ _ (facts l.before))
@@ -67,9 +66,8 @@ get-be-requires c κs = omega (arith, code_in c)
 cast-mask : tie.Need-overflow_cast-mask
 cast-mask c =
     let h = c.before.before.before.before in
-    let known = h in
-    let table = known.args.table.now in
-    let bytes : Bytes table = λ i. (known.shared_slice_known-1.given i).fits in
+    let table = h.args.table.now in
+    let bytes : Bytes table = λ i. (h.shared_slice_known-1.given i).fits in
     record { fits = code_lt table _ bytes (code_in c.before).0 c.get_be.ensures }
 
 returns-2 : tie.Need-returns

@@ -30,8 +30,7 @@ q16-yes : (c : tie.Else-table-lt-HEADER_BYTES) → q16 c.args.table.now ≡ true
 q16-yes c = le-leb 10 _ c.if-table-lt-HEADER_BYTES.false
 
 lengths_are : (c : tie.After-has_record_lengths)
-    → let h = c in
-    c.has_record_lengths.result ≡ q17 (header h.args.table.now)
+    → c.has_record_lengths.result ≡ q17 (header c.args.table.now)
 lengths_are c = rw c.lengths-head.ensures at c.has_record_lengths.ensures
 
 q17-yes : (c : tie.Else-not-has_record_lengths) → q17 (header (past-16 c).args.table.now) ≡ true

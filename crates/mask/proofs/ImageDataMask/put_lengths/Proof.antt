@@ -34,9 +34,8 @@ returns c =
     let codes = c.before.before in
     let pads = codes.before.before.before.before.before in
     let blocks = pads.before.before.before.before.before in
-    let offset = blocks in
-    lengths-put _ offset.args.self _ offset.requires
-    offset.put_be.ensures blocks.put_be-2.ensures pads.put_be-3.ensures codes.put_be-4.ensures
+    lengths-put _ blocks.args.self _ blocks.requires
+    blocks.put_be.ensures blocks.put_be-2.ensures pads.put_be-3.ensures codes.put_be-4.ensures
 
 pub put_lengths_spec : {M : Type 1} → statement M
 put_lengths_spec =

@@ -14,8 +14,7 @@ fits : (c : tie.After-record_count)
     c.record_count.result * (s.block_mask_record_length + s.pad_pixel_mask_record_length)
     ≤ 9_997_900_119_999 * 131_070
 fits c =
-    let s = c in
-    record_bytes-le _ _ _ _ s.requires c.record_count.ensures (omega arith) (omega arith)
+    record_bytes-le _ _ _ _ c.requires c.record_count.ensures (omega arith) (omega arith)
 
 cast-block : tie.Need-overflow_cast-block
 cast-block c = search rules

@@ -88,11 +88,10 @@ returns-2 c =
     let blocks = pads.before.before.before.before in
     let code = blocks.before.before.before.before in
     let bytes = code-before code in
-    let lengths = bytes in
     let h = accepted-before bytes in
     let a = h.before.before.before.before.before.args in
     table-put a.grid a.self a.block_offsets.now a.pad_pixel_offsets.now a.out.now (zero h)
-    lengths.table_bytes-size.ensures bytes.code_bytes-code.ensures lengths.put_lengths.ensures
+    bytes.table_bytes-size.ensures bytes.code_bytes-code.ensures bytes.put_lengths.ensures
     code.put_be.ensures blocks.put_offsets.ensures pads.put_offsets-2.ensures
 
 pub to_bytes_spec : {M : Type 1} → statement M

@@ -15,8 +15,7 @@ bands-apart-requires c κs = search rules
 
 add-pick : tie.Need-overflow_add-index
 add-pick c =
-    let s = c in
-    rw c.block_index-index.ensures (omega (arith, index_lt _ _ _ s.requires.1, (facts _ s.requires.0).blocks-le))
+    rw c.block_index-index.ensures (omega (arith, index_lt _ _ _ c.requires.1, (facts _ c.requires.0).blocks-le))
 
 pick-requires : tie.Need-pick-requires
 pick-requires c κs = search rules

@@ -11,9 +11,8 @@ get-be-requires c κs = search rules
 
 cast-result : tie.Need-overflow_cast-result
 cast-result c =
-    let known = c in
-    let table = known.args.table.now in
-    let bytes : Bytes table = λ i. (known.shared_slice_known-1.given i).fits in
+    let table = c.args.table.now in
+    let bytes : Bytes table = λ i. (c.shared_slice_known-1.given i).fits in
     record { fits = read_lt table _ 2 bytes c.get_be.ensures }
 
 returns : tie.Need-returns

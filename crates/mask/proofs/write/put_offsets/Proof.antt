@@ -47,11 +47,10 @@ loop-less c = omega arith
 loop-again : tie.Need-loop-k-preserved invariant-loop decreases-loop
 loop-again c =
     let put = c.before.before in
-    let head = put in
-    let a = head.args in (
+    let a = put.args in (
       omega arith,
-      values-turn (λ i. get_or a.list.now i 0) 4 a.out.now a.at head.loop-k.k (omega arith)
-          head.loop-k.invariant.1 refl put.put_be.ensures,
+      values-turn (λ i. get_or a.list.now i 0) 4 a.out.now a.at put.loop-k.k (omega arith)
+          put.loop-k.invariant.1 refl put.put_be.ensures,
       omega (arith, put.put_be.auto),
     )
 

@@ -22,9 +22,8 @@ evenly c = yes c.has_strides.ensures c.if-not-has_strides.false
 -- samples of a row do not meet
 step-pos : (c : tie.After-strides-by) → 0 < c.strides-by.result.column
 step-pos c =
-    let s = c in
-    let f = s.requires.0 in
-    rw c.strides-by.ensures (omega (arith, stride-wide s.args.layout f, (sample-size s.args.layout f).bits_pos))
+    let f = c.requires.0 in
+    rw c.strides-by.ensures (omega (arith, stride-wide c.args.layout f, (sample-size c.args.layout f).bits_pos))
 
 cast-width : tie.Need-overflow_cast-width
 cast-width c = search rules

@@ -46,11 +46,10 @@ loop-less : tie.Need-loop-k-smaller invariant-loop decreases-loop
 loop-less c = omega arith
 
 loop-again : tie.Need-loop-k-preserved invariant-loop decreases-loop
-loop-again c =
-    let turn = c in (
-      omega (arith, turn.loop-k-test.true),
-      band-turn _ _ turn.loop-k.invariant.1 c.read_band.ensures,
-    )
+loop-again c = (
+  omega (arith, c.loop-k-test.true),
+  band-turn _ _ c.loop-k.invariant.1 c.read_band.ensures,
+)
 
 same_length : tie.Need-shape_of-out invariant-loop decreases-loop
 same_length c = c.loop-k.invariant.1.size

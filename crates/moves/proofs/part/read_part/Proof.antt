@@ -67,8 +67,7 @@ band-count-requires c κs = search rules
 
 returns : tie.Need-returns-then-count-eq0 invariant-loop decreases-loop
 returns c =
-    let s = c in
-    let t = s.requires in
+    let t = c.requires in
     let e = c.band_count-count.ensures in
     answer-done _ _ _ _ _ _ (sample-size _ t.accepted).some t.to_rows t.to_columns
     (puts_none _ {some = λ k i j. ⊥} _ (λ k i j h. h))
@@ -107,10 +106,9 @@ first-area-requires c κs =
 areas-requires : tie.Need-areas-k-end-requires invariant-loop decreases-loop
 areas-requires c κs =
     let s = start c.before in
-    let n = c in
     let g = samples-fit _ _ _ _ _ _ _ s.requires (in_out s) in
-    areas_fit c.choose-order.ensures (rw n.band_count-count.ensures g)
-    (omega (arith, n.if-count-eq0.false))
+    areas_fit c.choose-order.ensures (rw c.band_count-count.ensures g)
+    (omega (arith, c.if-count-eq0.false))
 
 loop-holds : tie.Need-loop-k-init invariant-loop decreases-loop
 loop-holds c =
@@ -121,8 +119,7 @@ read-area-requires c κs =
     let turn = c.before in
     let n = numbers turn in
     let s = start n in
-    let count = n in
-    let e = count.band_count-count.ensures in
+    let e = n.band_count-count.ensures in
     let few = n.listed_together-together.ensures in
     let listed = order_listed (order_is n) _ (λ g. let f = few g in (f.0, f.1 ∙ e)) in
     let moves = area-moves (order_is n) _ (in_turn turn) (area_is turn) (omega (arith, e)) in

@@ -17,7 +17,7 @@ same_length c = search rules
 
 returns : tie.Need-returns
 returns c =
-    let s = c in whole-done _ _ _ _ _ s.requires
+    whole-done _ _ _ _ _ c.requires
     (rw c.whole_part-part.ensures at c.read_part.ensures)
 
 pub read_planes_spec : {M : Type 1} → statement M

@@ -128,15 +128,14 @@ loop-less c = omega (arith, (turn c).run_from-run.ensures.some, (turn c).loop-do
 loop-again : tie.Need-loop-done-preserved invariant-loop decreases-loop
 loop-again c =
     let run = turn c in
-    let head = run in
     let n = numbers run.before in
     let s = start n in
     let a = s.args in (
       omega (arith, run.run_from-run.ensures.count-le, run.loop-done-test.true),
-      row_then _ a.b a.r a.c _ _ head.loop-done.invariant.1
-          (run_put a.layout s.requires.0.accepted a.dat.now a.b a.r a.c head.loop-done.done _ _
+      row_then _ a.b a.r a.c _ _ run.loop-done.invariant.1
+          (run_put a.layout s.requires.0.accepted a.dat.now a.b a.r a.c run.loop-done.done _ _
           (here run.before) (omega (arith, s.requires.1.1.0, run.loop-done-test.true))
-          (omega (arith, s.requires.0.image_holds, head.loop-done.invariant.1.size)) s.requires.1.1.1
+          (omega (arith, s.requires.0.image_holds, run.loop-done.invariant.1.size)) s.requires.1.1.1
           n.sample_bytes-size.ensures (step_is n) run.run_from-run.ensures
           c.write_samples.ensures),
     )

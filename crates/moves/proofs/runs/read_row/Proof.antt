@@ -106,16 +106,15 @@ loop-less c = omega (arith, (turn c).run_from-run.ensures.some, (turn c).loop-do
 loop-again : tie.Need-loop-done-preserved invariant-loop decreases-loop
 loop-again c =
     let run = turn c in
-    let head = run in
     let n = numbers run.before in
     let a = (start n).args in
     let call = c.read_samples in (
       omega (arith, run.run_from-run.ensures.count-le, run.loop-done-test.true),
-      omega (arith, call.auto, head.loop-done.invariant.1),
+      omega (arith, call.auto, run.loop-done.invariant.1),
       values_run (λ j. sample_at a.layout a.src.now a.b a.r (a.c + j))
           (spaced a.src.now run.run_from-run.result.at n.strides-step.result.column a.layout.nbpp) _ _ _ _ _
-          (in_out run) head.loop-done.invariant.2 call.ensures
-          (λ j l. run_number a.layout a.src.now a.b a.r a.c head.loop-done.done _ _ j (step_is n)
+          (in_out run) run.loop-done.invariant.2 call.ensures
+          (λ j l. run_number a.layout a.src.now a.b a.r a.c run.loop-done.done _ _ j (step_is n)
           run.run_from-run.ensures l),
     )
 
@@ -124,8 +123,7 @@ same_length c = omega arith
 
 returns : tie.Need-returns invariant-loop decreases-loop
 returns c =
-    let s = c in
-    let e : c.loop-done.done ≡ s.args.count = omega arith in
+    let e : c.loop-done.done ≡ c.args.count = omega arith in
     c.loop-done.invariant.2 ∙ rw (e, c.sample_bytes-size.ensures)
 
 pub read_row_spec : {M : Type 1} → statement M

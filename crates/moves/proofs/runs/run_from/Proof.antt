@@ -27,23 +27,21 @@ along : (c : tie.After-min) (j : ℕ)
     j < c.min.result
     → place l a.b a.r (a.c + j) ≡ place l a.b a.r a.c + j * column_stride l.mode l
 along c j h =
-    let s = c in
-    let a = s.args in
+    let a = c.args in
     let e = c.min.ensures in
     let g = c.rest_of_run.ensures in
     place-along a.layout a.b a.r a.c j
-    (rest_in a.layout a.b a.r a.c j s.requires.0.some-bands (omega arith))
+    (rest_in a.layout a.b a.r a.c j c.requires.0.some-bands (omega arith))
 
 returns : tie.Need-returns
 returns c =
-    let s = c in
-    let a = s.args in
-    let f = s.requires.0 in
-    let t = s.requires.1.0 in
+    let a = c.args in
+    let f = c.requires.0 in
+    let t = c.requires.1.0 in
     let e = c.min.ensures in
     let g = c.rest_of_run.ensures in
     let h = c.sample_place-at.ensures in
-    let some : 0 < c.min.result = omega (arith, s.requires.1.1, rest-pos a.layout f a.b a.r a.c t) in
+    let some : 0 < c.min.result = omega (arith, c.requires.1.1, rest-pos a.layout f a.b a.r a.c t) in
     rw h
     (record {
       some = some;
@@ -52,7 +50,7 @@ returns c =
       along = along c;
       movable = λ n reach.
           movable a.layout f n a.b a.r a.c _ _ c.min.result
-          (record { in_b = t.in_b; in_r = t.in_r; in_c = omega (arith, s.requires.1.1) }) reach some refl
+          (record { in_b = t.in_b; in_r = t.in_r; in_c = omega (arith, c.requires.1.1) }) reach some refl
           (along c (c.min.result - 1) (omega arith));
     })
 

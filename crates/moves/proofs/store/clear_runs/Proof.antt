@@ -34,10 +34,9 @@ inside : (c : tie.In-loop-i invariant-loop decreases-loop)
     → let l = c.args.layout in
     l.first + c.loop-i.i * l.apart + l.run_bytes ≤ length c.loop-i.image
 inside c =
-    let s = c in
-    let l = s.args.layout in
+    let l = c.args.layout in
     run_in l.first l.apart l.run_bytes l.bands c.loop-i.i (length c.loop-i.image)
-    c.loop-i-test.true (omega (arith, s.requires.1, c.loop-i.invariant.1))
+    c.loop-i-test.true (omega (arith, c.requires.1, c.loop-i.invariant.1))
 
 cast-bands : tie.Need-overflow_cast-bands invariant-loop decreases-loop
 cast-bands c = search rules
@@ -62,13 +61,12 @@ loop-less c = omega arith
 
 loop-again : tie.Need-loop-i-preserved invariant-loop decreases-loop
 loop-again c =
-    let h = c in
-    let a = h.args in
+    let a = c.args in
     let call = c.clear_bytes in (
       omega arith,
-      omega (arith, call.auto, h.loop-i.invariant.1),
+      omega (arith, call.auto, c.loop-i.invariant.1),
       iter_turn (cleared a.layout.first a.layout.apart
-          a.layout.run_bytes) _ h.loop-i.i h.loop-i.invariant.2 call.ensures,
+          a.layout.run_bytes) _ c.loop-i.i c.loop-i.invariant.2 call.ensures,
     )
 
 same_length : tie.Need-shape_of-image invariant-loop decreases-loop

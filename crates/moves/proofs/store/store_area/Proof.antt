@@ -20,8 +20,7 @@ decreases-loop image₀ layout sides order area dat p-end p₀ image p = p-end -
 
 loop-holds : tie.Need-loop-p-init invariant-loop decreases-loop
 loop-holds c =
-    let s = c in
-    (omega arith, no-parts _ s.args.order s.args.area _)
+    (omega arith, no-parts _ c.args.order c.args.area _)
 
 -- the function's start, and the part of the bands of a turn
 abbrev start : tie.In-loop-p invariant-loop decreases-loop → tie.Start invariant-loop decreases-loop
@@ -56,17 +55,15 @@ loop-again : tie.Need-loop-p-preserved invariant-loop decreases-loop
 loop-again c =
     let turn = c.before.before.before.before.before in
     let moves = (start turn).requires.1.1 in
-    let piece = c in
     let read = c.store_piece.ensures in
-    (turn-le {n = (start turn).args.order.bands.parts} {p = turn.loop-p.p} (in_turn turn), parts-turn _ moves _ piece.piece.ensures turn.loop-p.invariant.1 read)
+    (turn-le {n = (start turn).args.order.bands.parts} {p = turn.loop-p.p} (in_turn turn), parts-turn _ moves _ c.piece.ensures turn.loop-p.invariant.1 read)
 
 same_length : tie.Need-shape_of-image invariant-loop decreases-loop
 same_length c = c.loop-p.invariant.1.size
 
 returns : tie.Need-returns invariant-loop decreases-loop
 returns c =
-    let s = c in
-    parts-done _ s.requires.1.1 _ (omega (arith, c.loop-p-test.false)) c.loop-p.invariant.1
+    parts-done _ c.requires.1.1 _ (omega (arith, c.loop-p-test.false)) c.loop-p.invariant.1
 
 pub store_area_spec : {M : Type 1} → statement M
 store_area_spec =

@@ -129,9 +129,8 @@ returns-2 c =
     let from = at.before.before in
     let s = start from in
     let w = way-fits s Pixels at.in-Pixels.is in
-    let known = from in
     pixels-put s.requires.1.0 (placed s) s.requires.1.1.0 w.0 at.at-at-in-Pixels.ensures from.at-from.ensures
-    (λ i. (known.shared_slice_known-1.given i).fits) (λ i. (known.slice_known-1.given i).fits) w.1 w.2
+    (λ i. (from.shared_slice_known-1.given i).fits) (λ i. (from.slice_known-1.given i).fits) w.1 w.2
     w.3
     c.gather_rows.ensures
 

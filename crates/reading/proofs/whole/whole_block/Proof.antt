@@ -68,10 +68,9 @@ returns-2 : tie.Need-returns
 unfolding whole_block whole_at
 returns-2 c =
     let w = c.before.before in
-    let h = w in
-    let a = h.args in
+    let a = w.args in
     let start : ℕ = whole_start a.grid a.block_row a.block_col in
-    let accepted = sym h.whole_number.ensures ∙ h.if-whole_number-ne0.false in
+    let accepted = sym w.whole_number.ensures ∙ w.if-whole_number-ne0.false in
     rw w.whole_block-block.ensures (
       part-is a.image.now start (whole_length a.grid) ∙ sym (outcome-yes _ (λ n. []) accepted),
       (refl, from_start _ _ _ (sym (outcome-yes start (λ n. 0) accepted))),

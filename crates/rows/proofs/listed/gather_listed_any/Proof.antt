@@ -32,8 +32,7 @@ some : (c : tie.In-loop-c invariant-loop decreases-loop)
     (a.at + a.count * a.pixel ≤ length a.src.now + a.pixel)
     × (1 * a.plane ≤ length a.list.now * a.plane)
 some c =
-    let s = c in
-    (omega (arith, s.requires.inside 0 s.requires.some), mul-le-mul_right s.args.plane s.requires.some)
+    (omega (arith, c.requires.inside 0 c.requires.some), mul-le-mul_right c.args.plane c.requires.some)
 
 loop-holds : tie.Need-loop-c-init invariant-loop decreases-loop
 loop-holds c = (omega arith, refl, iter-none _ _)
@@ -53,12 +52,11 @@ add-gather-pixel-2 c = omega (arith, ends_in c.before, some c.before)
 gather-pixel-requires : tie.Need-gather_pixel-requires invariant-loop decreases-loop
 gather-pixel-requires c κs =
     let turn = c.before in
-    let s = turn in
     record {
-      size-le = s.requires.size-le;
-      some = s.requires.some;
-      inside = λ k h. omega (arith, s.requires.inside k h, ends_in turn);
-      room = omega (arith, s.requires.room, ends_in turn);
+      size-le = turn.requires.size-le;
+      some = turn.requires.some;
+      inside = λ k h. omega (arith, turn.requires.inside k h, ends_in turn);
+      room = omega (arith, turn.requires.room, ends_in turn);
     }
 
 add-c : tie.Need-overflow_step-c invariant-loop decreases-loop
@@ -70,12 +68,11 @@ loop-less c = omega arith
 loop-again : tie.Need-loop-c-preserved invariant-loop decreases-loop
 loop-again c =
     let call = c.before.before in
-    let head = call in
-    let a = head.args in (
+    let a = call.args in (
       omega arith,
       omega (arith, call.gather_pixel.auto),
       iter_turn (pixel_read a.src.now a.list.now a.at a.pixel a.size a.to a.plane)
-          a.out.now head.loop-c.c head.loop-c.invariant.2 call.gather_pixel.ensures,
+          a.out.now call.loop-c.c call.loop-c.invariant.2 call.gather_pixel.ensures,
     )
 
 same_length : tie.Need-shape_of-out invariant-loop decreases-loop

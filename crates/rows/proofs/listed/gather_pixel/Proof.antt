@@ -34,18 +34,16 @@ in_src : (c : tie.After-shared_slice_known-in-loop-k-1 invariant-loop decreases-
     → let a = c.args in
     a.at + get_or a.list.now c.loop-k.k 0 * a.size + a.size ≤ length a.src.now
 in_src c =
-    let s = c in
-    omega (arith, s.requires.inside c.loop-k.k (omega (arith, c.loop-k-test.true)))
+    omega (arith, c.requires.inside c.loop-k.k (omega (arith, c.loop-k-test.true)))
 
 in_out : (c : tie.After-shared_slice_known-in-loop-k-1 invariant-loop decreases-loop)
     → let a = c.args in
     a.to + c.loop-k.k * a.plane + a.size ≤ length a.out.now
 in_out c =
-    let s = c in
     omega (
       arith,
-      s.requires.room,
-      within c.loop-k.k (length s.args.list.now) s.args.plane
+      c.requires.room,
+      within c.loop-k.k (length c.args.list.now) c.args.plane
           (omega (arith, c.loop-k-test.true)),
     )
 
@@ -90,13 +88,12 @@ loop-again : tie.Need-loop-k-preserved invariant-loop decreases-loop
 loop-again c =
     let call = c.before.before in
     let turn = call.before.before.before in
-    let head = turn in
-    let a = head.args in (
+    let a = turn.args in (
       omega arith,
       omega (arith, call.put_be.auto),
       iter_turn (sample_read a.src.now a.list.now a.at a.size a.to a.plane)
-          a.out.now head.loop-k.k head.loop-k.invariant.2
-          (call.put_be.ensures ∙ ap (over head.loop-k.out (a.to + head.loop-k.k * a.plane))
+          a.out.now turn.loop-k.k turn.loop-k.invariant.2
+          (call.put_be.ensures ∙ ap (over turn.loop-k.out (a.to + turn.loop-k.k * a.plane))
           (ap (be_bytes a.size) call.get_be-v.ensures ∙ one_value _ a.size)),
     )
 

@@ -24,7 +24,7 @@ ends_in : (c : tie.In-loop-i invariant-loop decreases-loop)
 ends_in c = ends c.loop-i.i _ _ _ c.loop-i-test.true
 
 mul-n : tie.Need-overflow_mul-n invariant-loop decreases-loop
-mul-n c = let s = c in omega (arith, s.requires.1, last_row _ s.args.line s.requires.0.0)
+mul-n c = omega (arith, c.requires.1, last_row _ c.args.line c.requires.0.0)
 
 loop-holds : tie.Need-loop-i-init invariant-loop decreases-loop
 loop-holds c = (omega arith, refl, iter-none _ _)
@@ -55,13 +55,12 @@ loop-again c =
     let call = c.before.before in
     let turn = call.before.before in
     let head = turn.before in
-    let known = head.before.before in
-    let s = known in (
+    let known = head.before.before in (
       omega arith,
       omega (arith, call.copy.auto),
       iter_turn _ _ head.loop-i.i head.loop-i.invariant.2
           (copied_row _ _ _ _ _ _ _ _ (λ i. (known.shared_slice_known-1.given i).fits)
-          (omega (arith, s.requires.0.1, ends_in turn)) call.copy.ensures),
+          (omega (arith, known.requires.0.1, ends_in turn)) call.copy.ensures),
     )
 
 same_length : tie.Need-shape_of-out invariant-loop decreases-loop

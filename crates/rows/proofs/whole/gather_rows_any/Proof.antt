@@ -28,11 +28,10 @@ ends_in : (c : tie.In-loop-i invariant-loop decreases-loop) → let a =
     c.args in Ends c.loop-i.i a.rows a.row a.line
     × (1 * a.step ≤ a.count * a.step)
 ends_in c =
-    let s = c in
-    let a = s.args in (
+    let a = c.args in (
       ends c.loop-i.i a.rows a.row a.line c.loop-i-test.true,
       mul-le-mul_right a.step
-          s.requires.0.1,
+          c.requires.0.1,
     )
 
 loop-holds : tie.Need-loop-i-init invariant-loop decreases-loop
@@ -62,13 +61,12 @@ loop-less c = omega arith
 loop-again : tie.Need-loop-i-preserved invariant-loop decreases-loop
 loop-again c =
     let call = c.before.before in
-    let head = call in
-    let a = head.args in (
+    let a = call.args in (
       omega arith,
       omega (arith, call.gather_any.auto),
       iter_turn (row_read a.src.now (8 * a.at) (8 * a.row) (8 * a.step) (8 * a.size) a.size a.count
-          a.to a.line) a.out.now head.loop-i.i head.loop-i.invariant.2
-          (call.gather_any.ensures ∙ ap (λ (p : ℕ). over head.loop-i.out (a.to + head.loop-i.i * a.line)
+          a.to a.line) a.out.now call.loop-i.i call.loop-i.invariant.2
+          (call.gather_any.ensures ∙ ap (λ (p : ℕ). over call.loop-i.out (a.to + call.loop-i.i * a.line)
           (values (spaced a.src.now p (8 * a.step) (8 * a.size)) a.size a.count)) (omega arith)),
     )
 

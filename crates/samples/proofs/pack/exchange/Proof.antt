@@ -46,10 +46,9 @@ sub-append c = let k : ℕ = c.args.low in rw (one_shl k (omega arith)) (pow_pos
 
 append-requires-2 : tie.Need-append-requires
 append-requires-2 c κs =
-    let s = c in
-    let a = s.args in (
+    let a = c.args in (
       omega arith,
-      rw c.append-high.ensures (above-field a.x a.low a.width a.v (omega arith) (omega arith) s.requires.1),
+      rw c.append-high.ensures (above-field a.x a.low a.width a.v (omega arith) (omega arith) c.requires.1),
       rw (one_shl a.low (omega arith)) (mask_lt a.x a.low),
     )
 

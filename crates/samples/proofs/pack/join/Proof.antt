@@ -41,11 +41,10 @@ get-be-requires c κs = omega arith
 append-requires : tie.Need-append-acc-requires invariant-loop decreases-loop
 unfolding side_by_side
 append-requires c κs =
-    let head = c in
-    let a = head.args in
+    let a = c.args in
     let v : ℕ → ℕ = side_by_side a.dat.now a.from a.size in (
       omega arith,
-      rw head.loop-k.invariant.1 (room v a.width head.loop-k.k (omega arith)),
+      rw c.loop-k.invariant.1 (room v a.width c.loop-k.k (omega arith)),
       rw c.get_be-v.ensures (fit_in c.before),
     )
 
@@ -58,8 +57,7 @@ loop-less c = omega arith
 loop-again : tie.Need-loop-k-preserved invariant-loop decreases-loop
 unfolding side_by_side
 loop-again c =
-    let head = c in
-    (omega arith, joined-turn _ _ _ (fit_in c.before.before) head.loop-k.invariant.1 c.get_be-v.ensures c.append-acc.ensures, room-left _ _ _ _ (omega arith))
+    (omega arith, joined-turn _ _ _ (fit_in c.before.before) c.loop-k.invariant.1 c.get_be-v.ensures c.append-acc.ensures, room-left _ _ _ _ (omega arith))
 
 returns : tie.Need-returns invariant-loop decreases-loop
 returns c = let e : c.loop-k.k ≡ c.args.group = omega arith in c.loop-k.invariant.1 ∙ rw e

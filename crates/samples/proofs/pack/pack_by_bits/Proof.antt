@@ -46,9 +46,8 @@ loop-less c = omega arith
 loop-again : tie.Need-loop-k-preserved invariant-loop decreases-loop
 unfolding side_by_side
 loop-again c =
-    let put = c.before.before in let got = put.before.before in let head = got in
-    one_more head.loop-k.invariant (omega (arith, put.put_bits.auto))
-    (put_spaced-turn _ _ _ _ _ _ head.loop-k.invariant.1 got.get_be-v.ensures put.put_bits.ensures)
+    let put = c.before.before in let got = put.before.before in one_more got.loop-k.invariant (omega (arith, put.put_bits.auto))
+    (put_spaced-turn _ _ _ _ _ _ got.loop-k.invariant.1 got.get_be-v.ensures put.put_bits.ensures)
 
 same_length : tie.Need-shape_of-img invariant-loop decreases-loop
 same_length c = omega arith

@@ -41,8 +41,7 @@ put-packed-requires : tie.Need-put_packed-requires invariant-loop decreases-loop
 unfolding side_by_side
 put-packed-requires c κs =
     let got = c.before in
-    let turn = got in
-    (omega arith, rw got.get_be-v.ensures (turn.requires.1.1 turn.loop-k.k turn.loop-k-test.true))
+    (omega arith, rw got.get_be-v.ensures (got.requires.1.1 got.loop-k.k got.loop-k-test.true))
 
 add-k : tie.Need-overflow_step-k invariant-loop decreases-loop
 add-k c = omega arith
@@ -53,9 +52,8 @@ loop-less c = omega arith
 loop-again : tie.Need-loop-k-preserved invariant-loop decreases-loop
 unfolding side_by_side
 loop-again c =
-    let put = c.before.before in let got = put.before.before in let head = got in
-    one_more head.loop-k.invariant (omega (arith, put.put_packed.auto))
-    (put_spaced-turn _ _ _ _ _ _ head.loop-k.invariant.1 got.get_be-v.ensures put.put_packed.ensures)
+    let put = c.before.before in let got = put.before.before in one_more got.loop-k.invariant (omega (arith, put.put_packed.auto))
+    (put_spaced-turn _ _ _ _ _ _ got.loop-k.invariant.1 got.get_be-v.ensures put.put_packed.ensures)
 
 same_length : tie.Need-shape_of-img invariant-loop decreases-loop
 same_length c = omega arith

@@ -33,9 +33,8 @@ mul-done c = omega (arith, groups_in c)
 pack-groups-requires : tie.Need-pack_groups-requires
 pack-groups-requires c κs =
     let there = c.before in
-    let start = there in
-    let few : there.group_of-group.result * start.args.width / 8 ≤ 8 = there.if-bytes-le8.true in
-    let p = start.requires in
+    let few : there.group_of-group.result * there.args.width / 8 ≤ 8 = there.if-bytes-le8.true in
+    let p = there.requires in
     let e = there.group_of-group.ensures in
     let g = groups_in there in
     (omega arith, (omega arith, λ k h. p.1.1 k (omega arith)))
@@ -59,11 +58,10 @@ pack-each-requires : tie.Need-pack_each-requires
 pack-each-requires c κs =
     let first = c.before.before.before in
     let there = first.before.before in
-    let s = there in
-    let p = s.requires in
+    let p = there.requires in
     let g = groups_in there in
     let e = first.pack_groups.auto in
-    (omega arith, (omega arith, fit-part _ s.args.from s.args.size _ s.args.count _ _ p.1.1 (omega arith) refl))
+    (omega arith, (omega arith, fit-part _ there.args.from there.args.size _ there.args.count _ _ p.1.1 (omega arith) refl))
 
 pack-each-requires-2 : tie.Need-pack_each-requires-else-at-eq0
 pack-each-requires-2 c κs = (omega arith, (omega arith, c.requires.1.1))

@@ -9,10 +9,9 @@ use Rattle.samples.proofs.pack.pack_groups.Tie as tie
 -- pairs of 12 bits fill three bytes
 pairs_in : (c : tie.Then-group-eq2) → let a = c.args in (a.size ≡ 2) × (a.width ≡ 12) × (a.group ≡ 2) × (a.bytes ≡ 3)
 pairs_in c =
-    let start = c in
-    let w : start.args.width ≡ 12 = c.if-width-eq12.true in
-    let g : start.args.group ≡ 2 = c.if-group-eq2.true in
-    (c.if-size-eq2.true, w, g, omega (arith, rw (w, g) at start.requires))
+    let w : c.args.width ≡ 12 = c.if-width-eq12.true in
+    let g : c.args.group ≡ 2 = c.if-group-eq2.true in
+    (c.if-size-eq2.true, w, g, omega (arith, rw (w, g) at c.requires))
 
 pack-groups-any-requires : tie.Need-pack_groups_any-requires
 pack-groups-any-requires c κs =

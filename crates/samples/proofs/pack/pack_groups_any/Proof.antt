@@ -34,9 +34,8 @@ add-join c = omega arith
 join-requires : tie.Need-join-v-requires invariant-loop decreases-loop
 join-requires c κs =
     let k = c.loop-k.k in
-    let s = c in
-    let a = s.args in
-    (omega arith, fit-part _ a.from a.size _ _ (k * a.group) _ s.requires.1.1 (within k a.n a.group c.loop-k-test.true) (omega arith))
+    let a = c.args in
+    (omega arith, fit-part _ a.from a.size _ _ (k * a.group) _ c.requires.1.1 (within k a.n a.group c.loop-k-test.true) (omega arith))
 
 mul-put-be : tie.Need-overflow_mul-k-in-loop-k invariant-loop decreases-loop
 mul-put-be c = omega arith
@@ -55,10 +54,9 @@ loop-less c = omega arith
 
 loop-again : tie.Need-loop-k-preserved invariant-loop decreases-loop
 loop-again c =
-    let put = c.before.before in let got = put.before.before in let head = got in
-    one_more head.loop-k.invariant (omega (arith, put.put_be.auto))
-    (group_turn _ _ _ _ _ _ _ _ _ (λ i. (head.slice_known-1.given i).fits) (omega arith) (omega arith)
-    head.loop-k.invariant.1 got.join-v.ensures put.put_be.ensures)
+    let put = c.before.before in let got = put.before.before in one_more got.loop-k.invariant (omega (arith, put.put_be.auto))
+    (group_turn _ _ _ _ _ _ _ _ _ (λ i. (got.slice_known-1.given i).fits) (omega arith) (omega arith)
+    got.loop-k.invariant.1 got.join-v.ensures put.put_be.ensures)
 
 same_length : tie.Need-shape_of-img invariant-loop decreases-loop
 same_length c = omega arith

@@ -37,11 +37,10 @@ sub-pack-grouped c = search rules
 pack-grouped-requires : tie.Need-pack_grouped-requires
 pack-grouped-requires c κs =
     let first = c.before.before.before in
-    let start = first in
-    let p = start.requires in
+    let p = first.requires in
     let q = parts_in first.before.before in
     let l = first.pack_each.auto in
-    (omega arith, (omega arith, fit-part _ start.args.from start.args.size _ start.args.count _ _ p.1.1 (omega arith) refl))
+    (omega arith, (omega arith, fit-part _ first.args.from first.args.size _ first.args.count _ _ p.1.1 (omega arith) refl))
 
 same_length : tie.Need-shape_of-img
 same_length c = search rules
@@ -50,9 +49,8 @@ returns : tie.Need-returns
 returns c =
     let rest = c.before.before in
     let first = rest.before.before.before.before in
-    let head = first in
-    let a = head.args in
-    put_rest a.dat.now a.from a.size a.width a.at a.width head.before_byte-head.result a.count a.img.now head.before_byte-head.ensures
+    let a = first.args in
+    put_rest a.dat.now a.from a.size a.width a.at a.width first.before_byte-head.result a.count a.img.now first.before_byte-head.ensures
     first.pack_each.ensures rest.pack_grouped.ensures
 
 pub pack_side_by_side_spec : {M : Type 1} → statement M

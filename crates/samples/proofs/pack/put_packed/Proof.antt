@@ -34,10 +34,9 @@ returns c =
     let put = c.before.before in
     let changed = put.before in
     let got = changed.before.before in
-    let known = got in
-    let a = known.args in
-    put_bits-within a.img.now a.at a.width (8 * a.n - a.at % 8 - a.width) a.n a.v (λ i. (known.slice_known-1.given i).fits)
-    (omega (arith, known.requires)) (omega (arith, known.requires)) got.get_be-x.ensures (rw (mod-eq_of_lt known.requires.1) changed.exchange.ensures) put.put_be.ensures
+    let a = got.args in
+    put_bits-within a.img.now a.at a.width (8 * a.n - a.at % 8 - a.width) a.n a.v (λ i. (got.slice_known-1.given i).fits)
+    (omega (arith, got.requires)) (omega (arith, got.requires)) got.get_be-x.ensures (rw (mod-eq_of_lt got.requires.1) changed.exchange.ensures) put.put_be.ensures
 
 pub put_packed_spec : {M : Type 1} → statement M
 put_packed_spec =

@@ -45,10 +45,9 @@ loop-less c = omega arith
 
 loop-again : tie.Need-loop-k-preserved invariant-loop decreases-loop
 loop-again c =
-    let put = c.before.before in let got = put.before.before in let head = got in
-    one_more head.loop-k.invariant (omega (arith, put.put_be.auto))
-    (values-turn _ _ _ _ _ (omega arith) head.loop-k.invariant.1
-    (got.get_be-v.ensures ∙ spaced-bytes _ _ _ _ _ (λ i. (head.shared_slice_known-1.given i).fits)) put.put_be.ensures)
+    let put = c.before.before in let got = put.before.before in one_more got.loop-k.invariant (omega (arith, put.put_be.auto))
+    (values-turn _ _ _ _ _ (omega arith) got.loop-k.invariant.1
+    (got.get_be-v.ensures ∙ spaced-bytes _ _ _ _ _ (λ i. (got.shared_slice_known-1.given i).fits)) put.put_be.ensures)
 
 same_length : tie.Need-shape_of-out invariant-loop decreases-loop
 same_length c = omega arith

@@ -46,9 +46,8 @@ loop-less c = omega arith
 loop-again : tie.Need-loop-k-preserved invariant-loop decreases-loop
 unfolding spaced
 loop-again c =
-    let put = c.before.before in let got = put.before.before in let head = got in
-    one_more head.loop-k.invariant (omega (arith, put.put_be.auto))
-    (values-turn _ _ _ _ _ (omega arith) head.loop-k.invariant.1 got.get_packed-v.ensures put.put_be.ensures)
+    let put = c.before.before in let got = put.before.before in one_more got.loop-k.invariant (omega (arith, put.put_be.auto))
+    (values-turn _ _ _ _ _ (omega arith) got.loop-k.invariant.1 got.get_packed-v.ensures put.put_be.ensures)
 
 same_length : tie.Need-shape_of-out invariant-loop decreases-loop
 same_length c = omega arith

@@ -47,9 +47,8 @@ loop-less c = omega arith
 loop-again : tie.Need-loop-k-preserved invariant-loop decreases-loop
 unfolding side_by_side
 loop-again c =
-    let put = c.before.before in let got = put.before.before in let head = got in
-    one_more head.loop-k.invariant (omega (arith, put.put_be.auto))
-    (put-turn _ _ _ _ _ _ (λ i. (head.slice_known-1.given i).fits) (omega arith) head.loop-k.invariant.1 got.get_be-v.ensures put.put_be.ensures)
+    let put = c.before.before in let got = put.before.before in one_more got.loop-k.invariant (omega (arith, put.put_be.auto))
+    (put-turn _ _ _ _ _ _ (λ i. (got.slice_known-1.given i).fits) (omega arith) got.loop-k.invariant.1 got.get_be-v.ensures put.put_be.ensures)
 
 same_length : tie.Need-shape_of-img invariant-loop decreases-loop
 same_length c = omega arith

@@ -8,7 +8,7 @@ use Rattle.samples.proofs.write.write_samples.Tie as tie
 
 -- samples of whole bytes: their start and their step
 whole_in : (c : tie.Then-width-size) → let a = c.args in Whole a.at a.step a.count
-whole_in c = let start = c in whole start.args.at start.args.step start.args.count (start.requires.1.0 c.if-width-size.true)
+whole_in c = whole c.args.at c.args.step c.args.count (c.requires.1.0 c.if-width-size.true)
 
 mul-if1 : tie.Need-overflow_mul-size
 mul-if1 c = search rules

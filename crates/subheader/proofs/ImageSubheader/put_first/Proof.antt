@@ -25,11 +25,10 @@ returns : tie.Need-returns
 returns c =
     let bits = c.before.before in
     let kind = bits.before.before.before.before in
-    let sides = kind in
-    let s = sides.args.self in
+    let s = kind.args.self in
     bits.put_used_bits.ensures
     ∙ ap (λ (d : List ℕ). put_all d (used_bits_entries s))
-    (kind.put_kind.ensures ∙ ap (λ (d : List ℕ). put_all d (kind_entries s)) sides.put_sides.ensures)
+    (kind.put_kind.ensures ∙ ap (λ (d : List ℕ). put_all d (kind_entries s)) kind.put_sides.ensures)
 
 pub put_first_spec : {M : Type 1} → statement M
 put_first_spec =

@@ -43,13 +43,12 @@ returns c =
     let icat = c.before.before in
     let irep = icat.before.before.before.before.before in
     let pvtype = irep.before.before.before.before.before in
-    let bytes = pvtype in
-    let a = bytes.args in
+    let a = pvtype.args in
     icat.put_text-3.ensures
     ∙ ap (λ (d : List ℕ). put d (text ICAT a.self.icat))
     (irep.put_text-2.ensures
     ∙ ap (λ (d : List ℕ). put d (text IREP a.self.irep))
-    (pvtype.put_text.ensures ∙ ap (λ (t : List ℕ). put a.part.now (text PVTYPE t)) bytes.to_bytes-pvtype.ensures))
+    (pvtype.put_text.ensures ∙ ap (λ (t : List ℕ). put a.part.now (text PVTYPE t)) pvtype.to_bytes-pvtype.ensures))
 
 pub put_kind_spec : {M : Type 1} → statement M
 put_kind_spec =

@@ -20,9 +20,8 @@ same_length c = search rules
 returns : tie.Need-returns
 returns c =
     let ncols = c.before.before in
-    let nrows = ncols in
-    let s = nrows.args.self in
-    ncols.put_number-2.ensures ∙ ap (λ (d : List ℕ). put d (number NCOLS s.grid.ncols)) nrows.put_number.ensures
+    let s = ncols.args.self in
+    ncols.put_number-2.ensures ∙ ap (λ (d : List ℕ). put d (number NCOLS s.grid.ncols)) ncols.put_number.ensures
 
 pub put_sides_spec : {M : Type 1} → statement M
 put_sides_spec = tie.close (tie.spec put-number-requires put-number-requires-2 same_length returns)

@@ -15,8 +15,7 @@ returns c =
     let nppbh = nppbv.before.before.before.before.before in
     let nbpc = nppbh.before.before.before.before.before in
     let nbpr = nbpc.before.before.before.before in
-    let imode = nbpr in
-    let g = imode.args.self.grid in
+    let g = nbpr.args.self.grid in
     nbpp.put_number-5.ensures
     ∙ ap (λ (d : List ℕ). put d (number NBPP g.nbpp))
     (nppbv.put_number-4.ensures
@@ -27,7 +26,7 @@ returns c =
     ∙ ap (λ (d : List ℕ). put d (number NBPC g.nbpc))
     (nbpr.put_number.ensures
     ∙ ap (λ (d : List ℕ). put d (number NBPR g.nbpr))
-    (imode.put_text.ensures ∙ ap (λ (t : List ℕ). put imode.args.part.now (text IMODE t)) imode.mode_to_bytes-imode.ensures)))
+    (nbpr.put_text.ensures ∙ ap (λ (t : List ℕ). put nbpr.args.part.now (text IMODE t)) nbpr.mode_to_bytes-imode.ensures)))
     nppbh.written_side.ensures)
     nppbv.written_side-2.ensures)
 

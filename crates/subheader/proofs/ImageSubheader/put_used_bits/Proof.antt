@@ -26,8 +26,7 @@ same_length c = search rules
 returns : tie.Need-returns
 returns c =
     let pjust = c.before.before in
-    let abpp = pjust in
-    pjust.put_text.ensures ∙ ap₂ (λ (d t : List ℕ). put d (text PJUST t)) abpp.put_number.ensures abpp.to_bytes-pjust.ensures
+    pjust.put_text.ensures ∙ ap₂ (λ (d t : List ℕ). put d (text PJUST t)) pjust.put_number.ensures pjust.to_bytes-pjust.ensures
 
 pub put_used_bits_spec : {M : Type 1} → statement M
 put_used_bits_spec =

@@ -28,16 +28,14 @@ parts-hold-requires c κs = search rules
 returns-3 : tie.Need-returns-then-not-parts_hold
 unfolding write_number q24_write grid_number
 returns-3 c =
-    let grid = c in
-    simp (le-leb _ _ grid.if-self-gt-MAX_ABPP.false)
-    (sym ((grid-before _).accepts grid.check-number.ensures grid.if-number-ne0.false _ ∙ ask-no 9 _ (no c.parts_hold.ensures c.if-not-parts_hold.true)))
+    simp (le-leb _ _ c.if-self-gt-MAX_ABPP.false)
+    (sym ((grid-before _).accepts c.check-number.ensures c.if-number-ne0.false _ ∙ ask-no 9 _ (no c.parts_hold.ensures c.if-not-parts_hold.true)))
 
 returns-4 : tie.Need-returns
 unfolding write_number q24_write grid_number
 returns-4 c =
-    let grid = c in
-    simp (le-leb _ _ grid.if-self-gt-MAX_ABPP.false)
-    (sym ((grid-before _).accepts grid.check-number.ensures grid.if-number-ne0.false _ ∙ ask-yes 9 _ (yes c.parts_hold.ensures c.if-not-parts_hold.false)))
+    simp (le-leb _ _ c.if-self-gt-MAX_ABPP.false)
+    (sym ((grid-before _).accepts c.check-number.ensures c.if-number-ne0.false _ ∙ ask-yes 9 _ (yes c.parts_hold.ensures c.if-not-parts_hold.false)))
 
 pub write_number_spec : {M : Type 1} → statement M
 write_number_spec =

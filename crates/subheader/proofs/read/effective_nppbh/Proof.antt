@@ -19,8 +19,7 @@ effective-side-requires c κs = search rules
 
 returns : tie.Need-returns
 returns c =
-    let third = c in
-    rw (third.number_in-nppbh.ensures, third.number_in-nbpr.ensures, third.number_in.ensures) at c.effective_side.ensures
+    rw (c.number_in-nppbh.ensures, c.number_in-nbpr.ensures, c.number_in.ensures) at c.effective_side.ensures
 
 pub effective_nppbh_spec : {M : Type 1} → statement M
 effective_nppbh_spec =

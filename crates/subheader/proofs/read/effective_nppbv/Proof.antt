@@ -19,8 +19,7 @@ effective-side-requires c κs = search rules
 
 returns : tie.Need-returns
 returns c =
-    let third = c in
-    rw (third.number_in-nppbv.ensures, third.number_in-nbpc.ensures, third.number_in.ensures) at c.effective_side.ensures
+    rw (c.number_in-nppbv.ensures, c.number_in-nbpc.ensures, c.number_in.ensures) at c.effective_side.ensures
 
 pub effective_nppbv_spec : {M : Type 1} → statement M
 effective_nppbv_spec =

@@ -40,8 +40,7 @@ loop-less c = omega arith
 
 loop-again : tie.Need-loop-j-preserved invariant-loop decreases-loop
 loop-again c =
-    let l = c in
-    (omega arith, rw length-set l.loop-j.invariant.1, turn l.args.bytes.now l.loop-j.out l.loop-j.j (omega (arith, l.requires)) (omega (arith, l.loop-j.invariant.1)) l.loop-j.invariant.2)
+    (omega arith, rw length-set c.loop-j.invariant.1, turn c.args.bytes.now c.loop-j.out c.loop-j.j (omega (arith, c.requires)) (omega (arith, c.loop-j.invariant.1)) c.loop-j.invariant.2)
 
 returns : tie.Need-returns invariant-loop decreases-loop
 returns c =

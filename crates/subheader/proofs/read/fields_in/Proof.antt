@@ -65,9 +65,8 @@ returns c =
     let abpp = pjust.before.before in
     let icat = abpp.before in
     let irep = icat.before.before in
-    let pvtype = irep in
     rw (
-      pvtype.from_bytes.ensures ∙ ap (value_of pvtype_text pvtypes UnsignedInt) pvtype.bytes_in.ensures,
+      irep.from_bytes.ensures ∙ ap (value_of pvtype_text pvtypes UnsignedInt) irep.bytes_in.ensures,
       irep.eight_bytes.ensures ∙ irep.bytes_in-2.ensures,
       icat.eight_bytes-2.ensures ∙ icat.bytes_in-3.ensures,
       abpp.number_in.ensures,

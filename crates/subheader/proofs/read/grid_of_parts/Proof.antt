@@ -41,11 +41,10 @@ returns c =
     let rows = across.before in
     let columns = rows.before in
     let mode = columns.before in
-    let bits = mode in
     rw (
-      bits.number_in.ensures,
-      bits.number_in-2.ensures,
-      bits.number_in-3.ensures,
+      mode.number_in.ensures,
+      mode.number_in-2.ensures,
+      mode.number_in-3.ensures,
       mode.mode_from_bytes.ensures ∙ ap (value_of imode_text imodes B) mode.bytes_in.ensures,
       columns.effective_nppbh.ensures,
       rows.effective_nppbv.ensures,

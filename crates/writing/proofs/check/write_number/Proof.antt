@@ -44,10 +44,10 @@ unfolding skip_number write_number
 asked c = (block-before _ _ _ _ _).accepts c.block_number-number.ensures c.if-number-ne0.false _
 
 -- past question 13
-rows_in : (c : tie.Else-rows-actual_rows) → let d = c in let a = d.args in a.rows ≡ actual_rows a.grid a.block_row
+rows_in : (c : tie.Else-rows-actual_rows) → let a = c.args in a.rows ≡ actual_rows a.grid a.block_row
 rows_in c = c.if-rows-actual_rows.false ∙ c.actual_rows.ensures
 
-columns_in : (c : tie.Else-columns-actual_columns) → let d = c in let a = d.args in a.columns ≡ actual_columns a.grid a.block_col
+columns_in : (c : tie.Else-columns-actual_columns) → let a = c.args in a.columns ≡ actual_columns a.grid a.block_col
 columns_in c = c.if-columns-actual_columns.false ∙ c.actual_columns.ensures
 
 shaped : (c : tie.Else-columns-actual_columns)

@@ -21,9 +21,8 @@ same-bytes-requires c κs = search rules
 
 returns : tie.Need-returns
 returns c =
-    let text = c in
-    let xs = text.args.bytes.now in
-    c.same_bytes.ensures ∙ ap (same_bytes xs) (text.to_bytes-text.ensures ∙ ap pjust_text text.from_bytes.ensures) ∙ named_by pjust_text xs _ _
+    let xs = c.args.bytes.now in
+    c.same_bytes.ensures ∙ ap (same_bytes xs) (c.to_bytes-text.ensures ∙ ap pjust_text c.from_bytes.ensures) ∙ named_by pjust_text xs _ _
 
 pub is_named_spec : {M : Type 1} → statement M
 is_named_spec =

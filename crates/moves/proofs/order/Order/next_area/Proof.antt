@@ -10,8 +10,7 @@ next-requires c κs = c.requires.in_columns.ends
 
 returns : tie.Need-returns-then-columns-gt0
 returns c =
-    let s = c in
-    columns-go_on s.args.self s.args.area c.next-columns.ensures c.if-columns-gt0.true
+    columns-go_on c.args.self c.args.area c.next-columns.ensures c.if-columns-gt0.true
 
 next-requires-2 : tie.Need-next-requires
 next-requires-2 c κs = c.requires.in_rows.ends
@@ -19,8 +18,7 @@ next-requires-2 c κs = c.requires.in_rows.ends
 returns-2 : tie.Need-returns
 returns-2 c =
     let last = c.before in
-    let s = last in
-    rows-go_on s.args.self s.args.area last.next-columns.ensures c.next.ensures
+    rows-go_on last.args.self last.args.area last.next-columns.ensures c.next.ensures
     (omega (arith, last.if-columns-gt0.false))
 
 pub next_area_spec : {M : Type 1} → statement M
