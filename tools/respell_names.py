@@ -4,10 +4,10 @@
 usage: tools/respell_names.py            in crates/: specs, proofs, clauses, edits
        tools/respell_names.py --list     prints the names, old and new
 
-Words are in snake case: camelCase parts are split by `_`. A dash stands between two names of definitions, and `_` before
-a plain word, as in `length-put_bits` and `with_field_lt`. Types and modules keep their capitals. Functions of src/,
-exported names, strings and inputs are not touched. A name that would fall together with another keeps its dashes.
-It is run once, after port.py, at the top of the repository.
+Words are in snake case: camelCase parts are split by `_`. A dash stands between two names of definitions, and `_`
+before a plain word, as in `length-put_bits` and `with_field_lt`. Types and modules keep their capitals. Functions of
+src/, exported names, strings and inputs are not touched. A name that would fall together with another keeps its
+dashes. It is run once, after port.py, at the top of the repository: docs/PORT.md.
 """
 
 import glob
@@ -51,7 +51,7 @@ def snake(name):
 
 
 def defined():
-    """The names that specs/ and proofs/ define: definitions, laws, fields, constructors; not the answers of a function."""
+    """The names that specs/ and proofs/ define: definitions, laws, fields, constructors; no answers of a function."""
     names = set()
     for path in files(".antt"):
         for line in read(path).splitlines():
