@@ -14,11 +14,11 @@ use Rattle.bits.proofs.Shift.{shl_or}
 use Rattle.bits.proofs.get_bits.Statement.{statement}
 use Rattle.bits.proofs.get_bits.Tie as tie
 
-abbrev invariant-loop : tie.invariant-loop-done
-invariant-loop buf at width acc₀ done₀ acc done = (done ≤ width) × (acc ≡ bits_at buf at done)
+abbrev invariant-loop-done : tie.invariant-loop-done
+invariant-loop-done buf at width acc₀ done₀ acc done = (done ≤ width) × (acc ≡ bits_at buf at done)
 
-abbrev decreases-loop : tie.decreases-loop-done
-decreases-loop buf at width acc₀ done₀ acc done = width - done
+abbrev decreases-loop-done : tie.decreases-loop-done
+decreases-loop-done buf at width acc₀ done₀ acc done = width - done
 
 -- a turn: the n bits that lie in the next byte are added
 turn : (xs : List ℕ) (at width acc d n f : ℕ) → acc ≡ bits_at xs at d → d < width → width ≤ 64 → n ≡ min (width - d) (8 - (at + d) % 8)
@@ -29,45 +29,45 @@ turn xs at width acc d n f ea hd hw en ef =
     ∙ ap₂ (λ (a b : ℕ). a * 2 ^ n + b) ea ef
     ∙ sym (bits_at-turn xs at d n (omega arith))
 
-loop-holds : tie.Need-loop-done-init invariant-loop decreases-loop
+loop-done-init : tie.Need-loop-done-init invariant-loop-done decreases-loop-done
 unfolding bits_at
-loop-holds c = omega arith
+loop-done-init c = omega arith
 
-add-p : tie.Need-overflow_add-p invariant-loop decreases-loop
-add-p c = omega arith
+overflow_add-p : tie.Need-overflow_add-p invariant-loop-done decreases-loop-done
+overflow_add-p c = omega arith
 
-sub-room : tie.Need-overflow_sub-room invariant-loop decreases-loop
-sub-room c = omega arith
+overflow_sub-room : tie.Need-overflow_sub-room invariant-loop-done decreases-loop-done
+overflow_sub-room c = omega arith
 
-sub-min : tie.Need-overflow_sub-width invariant-loop decreases-loop
-sub-min c = omega arith
+overflow_sub-width : tie.Need-overflow_sub-width invariant-loop-done decreases-loop-done
+overflow_sub-width c = omega arith
 
-min-requires : tie.Need-min-n-requires invariant-loop decreases-loop
-min-requires c κs = omega arith
+min-n-requires : tie.Need-min-n-requires invariant-loop-done decreases-loop-done
+min-n-requires c κs = omega arith
 
-shared-slice-read-field : tie.Need-bounds-buf-p invariant-loop decreases-loop
-shared-slice-read-field c = omega arith
+bounds-buf-p : tie.Need-bounds-buf-p invariant-loop-done decreases-loop-done
+bounds-buf-p c = omega arith
 
-cast-field : tie.Need-overflow_cast-buf invariant-loop decreases-loop
-cast-field c = omega (arith, c.shared_slice_known-in-loop-done-1.given ((c.before.before.before.before.before.args.at + c.before.before.before.loop-done.done) / 8))
+overflow_cast-buf : tie.Need-overflow_cast-buf invariant-loop-done decreases-loop-done
+overflow_cast-buf c = omega (arith, c.shared_slice_known-in-loop-done-1.given ((c.before.before.before.before.before.args.at + c.before.before.before.loop-done.done) / 8))
 
-sub-field : tie.Need-overflow_sub-room-in-loop-done invariant-loop decreases-loop
-sub-field c = omega arith
+overflow_sub-room-in-loop-done : tie.Need-overflow_sub-room-in-loop-done invariant-loop-done decreases-loop-done
+overflow_sub-room-in-loop-done c = omega arith
 
-field-requires : tie.Need-field-f-requires invariant-loop decreases-loop
-field-requires c κs = omega arith
+field-f-requires : tie.Need-field-f-requires invariant-loop-done decreases-loop-done
+field-f-requires c κs = omega arith
 
-shl-acc : tie.Need-overflow_shl-acc invariant-loop decreases-loop
-shl-acc c = omega arith
+overflow_shl-acc : tie.Need-overflow_shl-acc invariant-loop-done decreases-loop-done
+overflow_shl-acc c = omega arith
 
-add_done : tie.Need-overflow_add-done invariant-loop decreases-loop
-add_done c = omega arith
+overflow_add-done : tie.Need-overflow_add-done invariant-loop-done decreases-loop-done
+overflow_add-done c = omega arith
 
-loop-less : tie.Need-loop-done-smaller invariant-loop decreases-loop
-loop-less c = omega arith
+loop-done-smaller : tie.Need-loop-done-smaller invariant-loop-done decreases-loop-done
+loop-done-smaller c = omega arith
 
-loop-again : tie.Need-loop-done-preserved invariant-loop decreases-loop
-loop-again c =
+loop-done-preserved : tie.Need-loop-done-preserved invariant-loop-done decreases-loop-done
+loop-done-preserved c =
     let head = c.before.before.before.before in
     let start = head.before.before in (
       omega arith,
@@ -75,7 +75,7 @@ loop-again c =
           head.loop-done.invariant.1 (omega arith) (omega arith) c.before.before.min-n.ensures c.field-f.ensures,
     )
 
-returns : tie.Need-returns invariant-loop decreases-loop
+returns : tie.Need-returns invariant-loop-done decreases-loop-done
 returns c =
     let start = c.before.before.before in
     let e : c.before.loop-done.done ≡ start.args.width = omega arith in
@@ -85,19 +85,19 @@ pub get_bits_spec : {M : Type 1} → statement M
 get_bits_spec =
     tie.close
     (tie.spec
-    invariant-loop
-    decreases-loop
-    loop-holds
-    add-p
-    sub-room
-    sub-min
-    min-requires
-    shared-slice-read-field
-    cast-field
-    sub-field
-    field-requires
-    shl-acc
-    add_done
-    loop-less
-    loop-again
+    invariant-loop-done
+    decreases-loop-done
+    loop-done-init
+    overflow_add-p
+    overflow_sub-room
+    overflow_sub-width
+    min-n-requires
+    bounds-buf-p
+    overflow_cast-buf
+    overflow_sub-room-in-loop-done
+    field-f-requires
+    overflow_shl-acc
+    overflow_add-done
+    loop-done-smaller
+    loop-done-preserved
     returns)

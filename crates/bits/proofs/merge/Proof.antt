@@ -34,30 +34,30 @@ small x k n v hx hk hv =
     let e : 8 - (k + n) + (k + n) ≡ 8 = omega arith in
     rw e at (with_field_lt x (8 - (k + n)) k n v (rw e hx) hv)
 
-add-high : tie.Need-overflow_add-high
-add-high c = search rules
+overflow_add-high : tie.Need-overflow_add-high
+overflow_add-high c = search rules
 
-shr_high : tie.Need-overflow_shr-high
-shr_high c = search rules
+overflow_shr-high : tie.Need-overflow_shr-high
+overflow_shr-high c = search rules
 
-shl-mid : tie.Need-overflow_shl-mid
-shl-mid c = search rules
+overflow_shl-mid : tie.Need-overflow_shl-mid
+overflow_shl-mid c = search rules
 
-shl-all : tie.Need-overflow_shl-all
-shl-all c = search rules
+overflow_shl-all : tie.Need-overflow_shl-all
+overflow_shl-all c = search rules
 
-shl-all-2 : tie.Need-overflow_shl-all-2
-shl-all-2 c = search rules
+overflow_shl-all-2 : tie.Need-overflow_shl-all-2
+overflow_shl-all-2 c = search rules
 
-sub-all : tie.Need-overflow_sub-all
-sub-all c = rw (one_shl c.args.low (omega arith)) (pow_pos c.args.low)
+overflow_sub-all : tie.Need-overflow_sub-all
+overflow_sub-all c = rw (one_shl c.args.low (omega arith)) (pow_pos c.args.low)
 
-cast-result : tie.Need-overflow_cast-result
-cast-result c = record { fits = rw (is_field c.args.x c.args.low c.args.n c.args.v (omega arith) (omega arith) (omega arith)) (small c.args.x c.args.low c.args.n c.args.v (omega arith) (omega arith) (omega arith)) }
+overflow_cast-result : tie.Need-overflow_cast-result
+overflow_cast-result c = record { fits = rw (is_field c.args.x c.args.low c.args.n c.args.v (omega arith) (omega arith) (omega arith)) (small c.args.x c.args.low c.args.n c.args.v (omega arith) (omega arith) (omega arith)) }
 
 returns : tie.Need-returns
 returns c = is_field c.args.x c.args.low c.args.n c.args.v (omega arith) (omega arith) (omega arith)
 
 pub merge_spec : {M : Type 1} → statement M
 merge_spec =
-    tie.close (tie.spec add-high shr_high shl-mid shl-all shl-all-2 sub-all cast-result returns)
+    tie.close (tie.spec overflow_add-high overflow_shr-high overflow_shl-mid overflow_shl-all overflow_shl-all-2 overflow_sub-all overflow_cast-result returns)

@@ -12,11 +12,11 @@ use Rattle.bits.proofs.Bits.{put_bits-turn}
 use Rattle.bits.proofs.put_bits.Statement.{statement}
 use Rattle.bits.proofs.put_bits.Tie as tie
 
-abbrev invariant-loop : tie.invariant-loop-done
-invariant-loop buf₀ at width value done₀ buf done = (done ≤ width) × (buf ≡ put_bits buf₀ at done (value / 2 ^ (width - done))) × (length buf ≡ length buf₀)
+abbrev invariant-loop-done : tie.invariant-loop-done
+invariant-loop-done buf₀ at width value done₀ buf done = (done ≤ width) × (buf ≡ put_bits buf₀ at done (value / 2 ^ (width - done))) × (length buf ≡ length buf₀)
 
-abbrev decreases-loop : tie.decreases-loop-done
-decreases-loop buf₀ at width value done₀ buf done = width - done
+abbrev decreases-loop-done : tie.decreases-loop-done
+decreases-loop-done buf₀ at width value done₀ buf done = width - done
 
 -- a turn: the bits that lie in the next byte are put
 turn : (xs ys : List ℕ) (at width v d n f b : ℕ) → ys ≡ put_bits xs at d (v / 2 ^ (width - d)) → d < width → at + width ≤ 8 * length xs → n ≡ min (width - d) (8 - (at + d) % 8)
@@ -25,55 +25,55 @@ turn : (xs ys : List ℕ) (at width v d n f b : ℕ) → ys ≡ put_bits xs at d
 turn xs ys at width v d n f b ey hd hw en ef eb =
     rw (eb, ef, ey) (put_bits-turn xs at width d n v (omega arith) (omega arith) (omega arith))
 
-loop-holds : tie.Need-loop-done-init invariant-loop decreases-loop
+loop-done-init : tie.Need-loop-done-init invariant-loop-done decreases-loop-done
 unfolding put_bits
-loop-holds c = (omega arith, refl, refl)
+loop-done-init c = (omega arith, refl, refl)
 
-add-p : tie.Need-overflow_add-p invariant-loop decreases-loop
-add-p c = omega arith
+overflow_add-p : tie.Need-overflow_add-p invariant-loop-done decreases-loop-done
+overflow_add-p c = omega arith
 
-sub-room : tie.Need-overflow_sub-room invariant-loop decreases-loop
-sub-room c = omega arith
+overflow_sub-room : tie.Need-overflow_sub-room invariant-loop-done decreases-loop-done
+overflow_sub-room c = omega arith
 
-sub-min : tie.Need-overflow_sub-width invariant-loop decreases-loop
-sub-min c = omega arith
+overflow_sub-width : tie.Need-overflow_sub-width invariant-loop-done decreases-loop-done
+overflow_sub-width c = omega arith
 
-min-requires : tie.Need-min-n-requires invariant-loop decreases-loop
-min-requires c κs = omega arith
+min-n-requires : tie.Need-min-n-requires invariant-loop-done decreases-loop-done
+min-n-requires c κs = omega arith
 
-sub-field : tie.Need-overflow_sub-width-in-loop-done invariant-loop decreases-loop
-sub-field c = omega arith
+overflow_sub-width-in-loop-done : tie.Need-overflow_sub-width-in-loop-done invariant-loop-done decreases-loop-done
+overflow_sub-width-in-loop-done c = omega arith
 
-sub-field-2 : tie.Need-overflow_sub-width-in-loop-done-2 invariant-loop decreases-loop
-sub-field-2 c = omega arith
+overflow_sub-width-in-loop-done-2 : tie.Need-overflow_sub-width-in-loop-done-2 invariant-loop-done decreases-loop-done
+overflow_sub-width-in-loop-done-2 c = omega arith
 
-field-requires : tie.Need-field-f-requires invariant-loop decreases-loop
-field-requires c κs = omega arith
+field-f-requires : tie.Need-field-f-requires invariant-loop-done decreases-loop-done
+field-f-requires c κs = omega arith
 
-slice-read-merge : tie.Need-bounds-buf-i invariant-loop decreases-loop
-slice-read-merge c = omega arith
+bounds-buf-i : tie.Need-bounds-buf-i invariant-loop-done decreases-loop-done
+bounds-buf-i c = omega arith
 
-sub-merge : tie.Need-overflow_sub-room-in-loop-done invariant-loop decreases-loop
-sub-merge c = omega arith
+overflow_sub-room-in-loop-done : tie.Need-overflow_sub-room-in-loop-done invariant-loop-done decreases-loop-done
+overflow_sub-room-in-loop-done c = omega arith
 
-merge-requires : tie.Need-merge-requires invariant-loop decreases-loop
+merge-requires : tie.Need-merge-requires invariant-loop-done decreases-loop-done
 merge-requires c κs =
     let head = c.before.before.before.before in
     let start = head.before.before in
     let n : ℕ = c.before.before.min-n.result in
     (omega arith, rw c.before.field-f.ensures (mod-lt (start.args.value / 2 ^ (start.args.width - head.loop-done.done - n)) (pow_pos n)))
 
-slice-write-buf : tie.Need-bounds-buf-i-in-loop-done invariant-loop decreases-loop
-slice-write-buf c = omega arith
+bounds-buf-i-in-loop-done : tie.Need-bounds-buf-i-in-loop-done invariant-loop-done decreases-loop-done
+bounds-buf-i-in-loop-done c = omega arith
 
-add_done : tie.Need-overflow_add-done invariant-loop decreases-loop
-add_done c = omega arith
+overflow_add-done : tie.Need-overflow_add-done invariant-loop-done decreases-loop-done
+overflow_add-done c = omega arith
 
-loop-less : tie.Need-loop-done-smaller invariant-loop decreases-loop
-loop-less c = omega arith
+loop-done-smaller : tie.Need-loop-done-smaller invariant-loop-done decreases-loop-done
+loop-done-smaller c = omega arith
 
-loop-again : tie.Need-loop-done-preserved invariant-loop decreases-loop
-loop-again c =
+loop-done-preserved : tie.Need-loop-done-preserved invariant-loop-done decreases-loop-done
+loop-done-preserved c =
     let head = c.before.before.before.before.before in
     let start = head.before.before in (
       omega arith,
@@ -83,10 +83,10 @@ loop-again c =
       rw length-set head.loop-done.invariant.2,
     )
 
-same_length : tie.Need-shape_of-buf invariant-loop decreases-loop
-same_length c = omega arith
+shape_of-buf : tie.Need-shape_of-buf invariant-loop-done decreases-loop-done
+shape_of-buf c = omega arith
 
-returns : tie.Need-returns invariant-loop decreases-loop
+returns : tie.Need-returns invariant-loop-done decreases-loop-done
 returns c =
     let start = c.before.before.before in
     let e : c.before.loop-done.done ≡ start.args.width = omega arith in
@@ -97,22 +97,22 @@ pub put_bits_spec : {M : Type 1} → statement M
 put_bits_spec =
     tie.close
     (tie.spec
-    invariant-loop
-    decreases-loop
-    loop-holds
-    add-p
-    sub-room
-    sub-min
-    min-requires
-    sub-field
-    sub-field-2
-    field-requires
-    slice-read-merge
-    sub-merge
+    invariant-loop-done
+    decreases-loop-done
+    loop-done-init
+    overflow_add-p
+    overflow_sub-room
+    overflow_sub-width
+    min-n-requires
+    overflow_sub-width-in-loop-done
+    overflow_sub-width-in-loop-done-2
+    field-f-requires
+    bounds-buf-i
+    overflow_sub-room-in-loop-done
     merge-requires
-    slice-write-buf
-    add_done
-    loop-less
-    loop-again
-    same_length
+    bounds-buf-i-in-loop-done
+    overflow_add-done
+    loop-done-smaller
+    loop-done-preserved
+    shape_of-buf
     returns)

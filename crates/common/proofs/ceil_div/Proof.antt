@@ -8,23 +8,23 @@ use Rattle.common.proofs.Arith.{ceil_le}
 use Rattle.common.proofs.ceil_div.Statement.{statement}
 use Rattle.common.proofs.ceil_div.Tie as tie
 
-returns : tie.Need-returns-then-b-eq0
-returns c = rw c.if-b-eq0.true (sym (div-zero _))
+returns-then-b-eq0 : tie.Need-returns-then-b-eq0
+returns-then-b-eq0 c = rw c.if-b-eq0.true (sym (div-zero _))
 
-sub_wide : tie.Need-overflow_sub-wide
-sub_wide c = search rules
+overflow_sub-wide : tie.Need-overflow_sub-wide
+overflow_sub-wide c = search rules
 
-add_wide : tie.Need-overflow_add-wide
-add_wide c = search rules
+overflow_add-wide : tie.Need-overflow_add-wide
+overflow_add-wide c = search rules
 
-div-result : tie.Need-nonzero_div-result
-div-result c = search rules
+nonzero_div-result : tie.Need-nonzero_div-result
+nonzero_div-result c = search rules
 
-cast-result : tie.Need-overflow_cast-result-2
-cast-result c = omega (arith, ceil_le c.args.a c.args.b (omega arith))
+overflow_cast-result-2 : tie.Need-overflow_cast-result-2
+overflow_cast-result-2 c = omega (arith, ceil_le c.args.a c.args.b (omega arith))
 
-returns-2 : tie.Need-returns
-returns-2 c = search rules
+returns : tie.Need-returns
+returns c = search rules
 
 pub ceil_div_spec : {M : Type 1} → statement M
-ceil_div_spec = tie.close (tie.spec returns sub_wide add_wide div-result cast-result returns-2)
+ceil_div_spec = tie.close (tie.spec returns-then-b-eq0 overflow_sub-wide overflow_add-wide nonzero_div-result overflow_cast-result-2 returns)

@@ -4,13 +4,13 @@ use Rattle.common.specs.Tests.{pick}
 use Rattle.common.proofs.pick.Statement.{statement}
 use Rattle.common.proofs.pick.Tie as tie
 
-returns : tie.Need-returns-then-test
+returns-then-test : tie.Need-returns-then-test
 unfolding pick
-returns c = rw c.if-test.true
+returns-then-test c = rw c.if-test.true
 
-returns-2 : tie.Need-returns-else-test
+returns-else-test : tie.Need-returns-else-test
 unfolding pick
-returns-2 c = rw c.if-test.false
+returns-else-test c = rw c.if-test.false
 
 pub pick_spec : {M : Type 1} → statement M
-pick_spec = tie.close (tie.spec returns returns-2)
+pick_spec = tie.close (tie.spec returns-then-test returns-else-test)

@@ -10,14 +10,14 @@ use Rattle.common.proofs.Arith.{leb_div}
 use Rattle.common.proofs.product_fits.Statement.{statement}
 use Rattle.common.proofs.product_fits.Tie as tie
 
-returns : tie.Need-returns-then-m-eq0
-returns c = let a = c.args in sym (le-leb (a.n * a.m) a.most (rw (c.if-m-eq0.true, mul-zero) (omega arith)))
+returns-then-m-eq0 : tie.Need-returns-then-m-eq0
+returns-then-m-eq0 c = let a = c.args in sym (le-leb (a.n * a.m) a.most (rw (c.if-m-eq0.true, mul-zero) (omega arith)))
 
-div-result : tie.Need-nonzero_div-result
-div-result c = search rules
+nonzero_div-result : tie.Need-nonzero_div-result
+nonzero_div-result c = search rules
 
-returns-2 : tie.Need-returns
-returns-2 c = let a = c.args in leb_div a.n a.most a.m (omega arith)
+returns : tie.Need-returns
+returns c = let a = c.args in leb_div a.n a.most a.m (omega arith)
 
 pub product_fits_spec : {M : Type 1} → statement M
-product_fits_spec = tie.close (tie.spec returns div-result returns-2)
+product_fits_spec = tie.close (tie.spec returns-then-m-eq0 nonzero_div-result returns)

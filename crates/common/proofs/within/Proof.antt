@@ -6,13 +6,13 @@ use Rattle.common.proofs.Tests.{every-last}
 use Rattle.common.proofs.within.Statement.{statement}
 use Rattle.common.proofs.within.Tie as tie
 
-returns : tie.Need-returns-then-x-lo
+returns-then-x-lo : tie.Need-returns-then-x-lo
 unfolding within every
-returns c = simp (lt-leb _ _ c.if-x-lo.true)
+returns-then-x-lo c = simp (lt-leb _ _ c.if-x-lo.true)
 
-returns-2 : tie.Need-returns
+returns : tie.Need-returns
 unfolding within every
-returns-2 c = simp (le-leb _ _ c.if-x-lo.false) (every-last _)
+returns c = simp (le-leb _ _ c.if-x-lo.false) (every-last _)
 
 pub within_spec : {M : Type 1} → statement M
-within_spec = tie.close (tie.spec returns returns-2)
+within_spec = tie.close (tie.spec returns-then-x-lo returns)

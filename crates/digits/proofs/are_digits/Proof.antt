@@ -13,43 +13,43 @@ use Rattle.digits.proofs.Digits.{digits_stop, digits-go}
 use Rattle.digits.proofs.are_digits.Statement.{statement}
 use Rattle.digits.proofs.are_digits.Tie as tie
 
-abbrev invariant-loop : tie.invariant-loop-j
-invariant-loop bytes j₀ j-end j = (j ≤ length bytes) × (j-end ≡ length bytes) × (are_digits (drop j bytes) ≡ are_digits bytes)
+abbrev invariant-loop-j : tie.invariant-loop-j
+invariant-loop-j bytes j₀ j-end j = (j ≤ length bytes) × (j-end ≡ length bytes) × (are_digits (drop j bytes) ≡ are_digits bytes)
 
-abbrev decreases-loop : tie.decreases-loop-j
-decreases-loop bytes j₀ j-end j = length bytes - j
+abbrev decreases-loop-j : tie.decreases-loop-j
+decreases-loop-j bytes j₀ j-end j = length bytes - j
 
-loop-holds : tie.Need-loop-j-init invariant-loop decreases-loop
-loop-holds c = (omega arith, refl, refl)
+loop-j-init : tie.Need-loop-j-init invariant-loop-j decreases-loop-j
+loop-j-init c = (omega arith, refl, refl)
 
-shared-slice-read-is-digit : tie.Need-bounds-bytes-j invariant-loop decreases-loop
-shared-slice-read-is-digit c = omega arith
+bounds-bytes-j : tie.Need-bounds-bytes-j invariant-loop-j decreases-loop-j
+bounds-bytes-j c = omega arith
 
-is-digit-requires : tie.Need-is_digit-requires invariant-loop decreases-loop
-is-digit-requires c κs = search rules
+is_digit-requires : tie.Need-is_digit-requires invariant-loop-j decreases-loop-j
+is_digit-requires c κs = search rules
 
-returns : tie.Need-returns-then-not-is_digit invariant-loop decreases-loop
-returns c =
+returns-then-not-is_digit : tie.Need-returns-then-not-is_digit invariant-loop-j decreases-loop-j
+returns-then-not-is_digit c =
     let l = c.before.before.before.before in
     let xs : List ℕ = l.args.bytes.now in
     sym (sym l.loop-j.invariant.2 ∙ digits_stop xs l.loop-j.j (omega arith) (no c.is_digit.ensures c.if-not-is_digit.true))
 
-add-j : tie.Need-overflow_step-j invariant-loop decreases-loop
-add-j c = omega arith
+overflow_step-j : tie.Need-overflow_step-j invariant-loop-j decreases-loop-j
+overflow_step-j c = omega arith
 
-loop-less : tie.Need-loop-j-smaller invariant-loop decreases-loop
-loop-less c = omega arith
+loop-j-smaller : tie.Need-loop-j-smaller invariant-loop-j decreases-loop-j
+loop-j-smaller c = omega arith
 
-loop-again : tie.Need-loop-j-preserved invariant-loop decreases-loop
-loop-again c =
+loop-j-preserved : tie.Need-loop-j-preserved invariant-loop-j decreases-loop-j
+loop-j-preserved c =
     let l = c.before.before.before.before in
     let xs : List ℕ = l.args.bytes.now in
     let go = digits-go xs l.loop-j.j (omega arith) (yes c.is_digit.ensures c.if-not-is_digit.false) in
     (omega arith, refl, go ∙ l.loop-j.invariant.2)
 
-returns-2 : tie.Need-returns invariant-loop decreases-loop
+returns : tie.Need-returns invariant-loop-j decreases-loop-j
 unfolding are_digits
-returns-2 c =
+returns c =
     let a = c.args in
     let e : c.loop-j.j ≡ length a.bytes.now = omega arith in
     sym (sym c.loop-j.invariant.2 ∙ ap (λ (n : ℕ). are_digits (drop n a.bytes.now)) e ∙ ap are_digits (drop-length a.bytes.now))
@@ -58,13 +58,13 @@ pub are_digits_spec : {M : Type 1} → statement M
 are_digits_spec =
     tie.close
     (tie.spec
-    invariant-loop
-    decreases-loop
-    loop-holds
-    shared-slice-read-is-digit
-    is-digit-requires
-    returns
-    add-j
-    loop-less
-    loop-again
-    returns-2)
+    invariant-loop-j
+    decreases-loop-j
+    loop-j-init
+    bounds-bytes-j
+    is_digit-requires
+    returns-then-not-is_digit
+    overflow_step-j
+    loop-j-smaller
+    loop-j-preserved
+    returns)

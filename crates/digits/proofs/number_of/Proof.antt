@@ -15,13 +15,13 @@ use Rattle.digits.proofs.Digits.{Digit, digit_at, number-go}
 use Rattle.digits.proofs.number_of.Statement.{statement}
 use Rattle.digits.proofs.number_of.Tie as tie
 
-abbrev invariant-loop : tie.invariant-loop-j
-invariant-loop bytes number₀ j₀ j-end number j =
+abbrev invariant-loop-j : tie.invariant-loop-j
+invariant-loop-j bytes number₀ j₀ j-end number j =
     (j ≤ length bytes) × (j-end ≡ length bytes) × (with_digits number (drop j bytes) ≡ number_of bytes)
     × (are_digits (drop j bytes) ≡ true) × (number < 10 ^ j)
 
-abbrev decreases-loop : tie.decreases-loop-j
-decreases-loop bytes number₀ j₀ j-end number j = length bytes - j
+abbrev decreases-loop-j : tie.decreases-loop-j
+decreases-loop-j bytes number₀ j₀ j-end number j = length bytes - j
 
 -- a number of at most eight digits
 room : (n j : ℕ) → n < 10 ^ j → j < 9 → n < 100_000_000
@@ -30,41 +30,41 @@ room n j h l =
     lt_of_lt_of_le h (pow-le-pow_right (lit< tt) top)
 
 -- in a turn: the digit read, and the number so far
-digit : (c : tie.After-shared_slice_known-1 invariant-loop decreases-loop)
+digit : (c : tie.After-shared_slice_known-1 invariant-loop-j decreases-loop-j)
     → let a = c.args in
     let j = c.loop-j.j in
     Digit (get_or a.bytes.now j 0) (drop (j + 1) a.bytes.now)
 digit c = digit_at c.args.bytes.now c.loop-j.j (omega arith) c.loop-j.invariant.3
 
-small : (c : tie.After-shared_slice_known-1 invariant-loop decreases-loop) → c.loop-j.number < 100_000_000
+small : (c : tie.After-shared_slice_known-1 invariant-loop-j decreases-loop-j) → c.loop-j.number < 100_000_000
 small c = room c.loop-j.number c.loop-j.j c.loop-j.invariant.4 (omega arith)
 
-loop-holds : tie.Need-loop-j-init invariant-loop decreases-loop
-loop-holds c = (omega arith, refl, refl, c.requires.1, omega (arith, pow-zero 10))
+loop-j-init : tie.Need-loop-j-init invariant-loop-j decreases-loop-j
+loop-j-init c = (omega arith, refl, refl, c.requires.1, omega (arith, pow-zero 10))
 
-mul-number : tie.Need-overflow_mul-number invariant-loop decreases-loop
-mul-number c = omega (arith, room c.loop-j.number c.loop-j.j c.loop-j.invariant.4 (omega arith))
+overflow_mul-number : tie.Need-overflow_mul-number invariant-loop-j decreases-loop-j
+overflow_mul-number c = omega (arith, room c.loop-j.number c.loop-j.j c.loop-j.invariant.4 (omega arith))
 
-shared-slice-read-number : tie.Need-bounds-bytes-j invariant-loop decreases-loop
-shared-slice-read-number c = omega arith
+bounds-bytes-j : tie.Need-bounds-bytes-j invariant-loop-j decreases-loop-j
+bounds-bytes-j c = omega arith
 
-sub_number : tie.Need-overflow_sub-number invariant-loop decreases-loop
-sub_number c = (digit c).low
+overflow_sub-number : tie.Need-overflow_sub-number invariant-loop-j decreases-loop-j
+overflow_sub-number c = (digit c).low
 
-cast-number : tie.Need-overflow_cast-number invariant-loop decreases-loop
-cast-number c = omega (arith, digit c)
+overflow_cast-number : tie.Need-overflow_cast-number invariant-loop-j decreases-loop-j
+overflow_cast-number c = omega (arith, digit c)
 
-add-number : tie.Need-overflow_add-number invariant-loop decreases-loop
-add-number c = omega (arith, digit c, small c)
+overflow_add-number : tie.Need-overflow_add-number invariant-loop-j decreases-loop-j
+overflow_add-number c = omega (arith, digit c, small c)
 
-add-j : tie.Need-overflow_step-j invariant-loop decreases-loop
-add-j c = omega arith
+overflow_step-j : tie.Need-overflow_step-j invariant-loop-j decreases-loop-j
+overflow_step-j c = omega arith
 
-loop-less : tie.Need-loop-j-smaller invariant-loop decreases-loop
-loop-less c = omega arith
+loop-j-smaller : tie.Need-loop-j-smaller invariant-loop-j decreases-loop-j
+loop-j-smaller c = omega arith
 
-loop-again : tie.Need-loop-j-preserved invariant-loop decreases-loop
-loop-again c =
+loop-j-preserved : tie.Need-loop-j-preserved invariant-loop-j decreases-loop-j
+loop-j-preserved c =
     let l = c.before.before in
     let xs : List ℕ = l.args.bytes.now in
     let d = digit c in
@@ -76,7 +76,7 @@ loop-again c =
       omega (arith, d, p, l.loop-j.invariant.4),
     )
 
-returns : tie.Need-returns invariant-loop decreases-loop
+returns : tie.Need-returns invariant-loop-j decreases-loop-j
 unfolding with_digits
 returns c =
     let a = c.args in
@@ -88,15 +88,15 @@ pub number_of_spec : {M : Type 1} → statement M
 number_of_spec =
     tie.close
     (tie.spec
-    invariant-loop
-    decreases-loop
-    loop-holds
-    mul-number
-    shared-slice-read-number
-    sub_number
-    cast-number
-    add-number
-    add-j
-    loop-less
-    loop-again
+    invariant-loop-j
+    decreases-loop-j
+    loop-j-init
+    overflow_mul-number
+    bounds-bytes-j
+    overflow_sub-number
+    overflow_cast-number
+    overflow_add-number
+    overflow_step-j
+    loop-j-smaller
+    loop-j-preserved
     returns)

@@ -10,13 +10,13 @@ use Rattle.digits.specs.Digits.{digit_bytes}
 use Rattle.digits.proofs.put_digits.Statement.{statement}
 use Rattle.digits.proofs.put_digits.Tie as tie
 
-abbrev invariant-loop : tie.invariant-loop-j
-invariant-loop out₀ number size left₀ j₀ out left j =
+abbrev invariant-loop-j : tie.invariant-loop-j
+invariant-loop-j out₀ number size left₀ j₀ out left j =
     (j ≤ size) × (size ≡ length out) × (length out ≡ length out₀)
     × (digit_bytes (size - j) left ++ drop (size - j) out ≡ digit_bytes size number)
 
-abbrev decreases-loop : tie.decreases-loop-j
-decreases-loop out₀ number size left₀ j₀ out left j = size - j
+abbrev decreases-loop-j : tie.decreases-loop-j
+decreases-loop-j out₀ number size left₀ j₀ out left j = size - j
 
 -- a turn: one more digit, from the end on
 turn : (out : List ℕ) (k left : ℕ) → k < length out
@@ -29,35 +29,35 @@ turn out k left h =
     (drop-cons (set out k x) k 0 l ∙ ap₂ ◌∷◌ (get_or-set_same out k x 0 h) (drop-set-lt (suc k) out k x (omega arith)))
     ∙ sym (append_snoc (digit_bytes k (left / 10)) x (drop (suc k) out))
 
-loop-holds : tie.Need-loop-j-init invariant-loop decreases-loop
-loop-holds c =
+loop-j-init : tie.Need-loop-j-init invariant-loop-j decreases-loop-j
+loop-j-init c =
     let xs : List ℕ = c.args.out.now in
     let z : length xs - 0 ≡ length xs = omega arith in
     (omega arith, refl, refl, rw (z, drop-length) (append-nil (digit_bytes (length xs) c.args.number)))
 
-cast-out : tie.Need-overflow_cast-out invariant-loop decreases-loop
-cast-out c = omega arith
+overflow_cast-out : tie.Need-overflow_cast-out invariant-loop-j decreases-loop-j
+overflow_cast-out c = omega arith
 
-add-out : tie.Need-overflow_add-out invariant-loop decreases-loop
-add-out c = omega arith
+overflow_add-out : tie.Need-overflow_add-out invariant-loop-j decreases-loop-j
+overflow_add-out c = omega arith
 
-sub_out : tie.Need-overflow_sub-out invariant-loop decreases-loop
-sub_out c = omega arith
+overflow_sub-out : tie.Need-overflow_sub-out invariant-loop-j decreases-loop-j
+overflow_sub-out c = omega arith
 
-sub-out-2 : tie.Need-overflow_sub-out-in-loop-j invariant-loop decreases-loop
-sub-out-2 c = omega arith
+overflow_sub-out-in-loop-j : tie.Need-overflow_sub-out-in-loop-j invariant-loop-j decreases-loop-j
+overflow_sub-out-in-loop-j c = omega arith
 
-slice-write-out : tie.Need-bounds-out-size invariant-loop decreases-loop
-slice-write-out c = omega arith
+bounds-out-size : tie.Need-bounds-out-size invariant-loop-j decreases-loop-j
+bounds-out-size c = omega arith
 
-add-j : tie.Need-overflow_step-j invariant-loop decreases-loop
-add-j c = omega arith
+overflow_step-j : tie.Need-overflow_step-j invariant-loop-j decreases-loop-j
+overflow_step-j c = omega arith
 
-loop-less : tie.Need-loop-j-smaller invariant-loop decreases-loop
-loop-less c = omega arith
+loop-j-smaller : tie.Need-loop-j-smaller invariant-loop-j decreases-loop-j
+loop-j-smaller c = omega arith
 
-loop-again : tie.Need-loop-j-preserved invariant-loop decreases-loop
-loop-again c =
+loop-j-preserved : tie.Need-loop-j-preserved invariant-loop-j decreases-loop-j
+loop-j-preserved c =
     let l = c.before in
     let n : ℕ = length l.args.out.now in
     let k : ℕ = n - (l.loop-j.j + 1) in
@@ -71,10 +71,10 @@ loop-again c =
       rw e (turn l.loop-j.out k l.loop-j.left h ∙ (rw f at l.loop-j.invariant.3)),
     )
 
-same_length : tie.Need-shape_of-out invariant-loop decreases-loop
-same_length c = c.loop-j.invariant.2
+shape_of-out : tie.Need-shape_of-out invariant-loop-j decreases-loop-j
+shape_of-out c = c.loop-j.invariant.2
 
-returns : tie.Need-returns invariant-loop decreases-loop
+returns : tie.Need-returns invariant-loop-j decreases-loop-j
 unfolding digit_bytes
 returns c =
     let n : ℕ = length c.args.out.now in
@@ -85,16 +85,16 @@ pub put_digits_spec : {M : Type 1} → statement M
 put_digits_spec =
     tie.close
     (tie.spec
-    invariant-loop
-    decreases-loop
-    loop-holds
-    cast-out
-    add-out
-    sub_out
-    sub-out-2
-    slice-write-out
-    add-j
-    loop-less
-    loop-again
-    same_length
+    invariant-loop-j
+    decreases-loop-j
+    loop-j-init
+    overflow_cast-out
+    overflow_add-out
+    overflow_sub-out
+    overflow_sub-out-in-loop-j
+    bounds-out-size
+    overflow_step-j
+    loop-j-smaller
+    loop-j-preserved
+    shape_of-out
     returns)

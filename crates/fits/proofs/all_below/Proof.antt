@@ -18,45 +18,45 @@ use Rattle.fits.proofs.all_below.Tie as tie
 abbrev below : List ℕ → ℕ → ℕ → ℕ → ℕ → Bool
 below bytes from step limit k = ltb (get_or bytes (from + k * step) 0) limit
 
-abbrev invariant-loop : tie.invariant-loop-k
-invariant-loop bytes from step count limit k₀ k = (k ≤ count) × (all_below k (below bytes from step limit) ≡ true)
+abbrev invariant-loop-k : tie.invariant-loop-k
+invariant-loop-k bytes from step count limit k₀ k = (k ≤ count) × (all_below k (below bytes from step limit) ≡ true)
 
-abbrev decreases-loop : tie.decreases-loop-k
-decreases-loop bytes from step count limit k₀ k = count - k
+abbrev decreases-loop-k : tie.decreases-loop-k
+decreases-loop-k bytes from step count limit k₀ k = count - k
 
-loop-holds : tie.Need-loop-k-init invariant-loop decreases-loop
+loop-k-init : tie.Need-loop-k-init invariant-loop-k decreases-loop-k
 unfolding all_below
-loop-holds c = (omega arith, refl)
+loop-k-init c = (omega arith, refl)
 
-mul-b : tie.Need-overflow_mul-b invariant-loop decreases-loop
-mul-b c = omega (arith, within c.loop-k.k c.args.count c.args.step (omega arith))
+overflow_mul-b : tie.Need-overflow_mul-b invariant-loop-k decreases-loop-k
+overflow_mul-b c = omega (arith, within c.loop-k.k c.args.count c.args.step (omega arith))
 
-add-b : tie.Need-overflow_add-b invariant-loop decreases-loop
-add-b c = omega (arith, within c.loop-k.k c.args.count c.args.step (omega arith))
+overflow_add-b : tie.Need-overflow_add-b invariant-loop-k decreases-loop-k
+overflow_add-b c = omega (arith, within c.loop-k.k c.args.count c.args.step (omega arith))
 
-shared-slice-read-b : tie.Need-bounds-bytes-from invariant-loop decreases-loop
-shared-slice-read-b c =
+bounds-bytes-from : tie.Need-bounds-bytes-from invariant-loop-k decreases-loop-k
+bounds-bytes-from c =
     let a = c.args in
     omega (arith, within c.loop-k.k a.count a.step (omega arith))
 
-returns : tie.Need-returns-then-b-limit invariant-loop decreases-loop
-returns c =
+returns-then-b-limit : tie.Need-returns-then-b-limit invariant-loop-k decreases-loop-k
+returns-then-b-limit c =
     let a = c.args in
     sym (below_fails _ (below a.bytes.now a.from a.step a.limit) c.loop-k.k (omega arith) (le-ltb _ _ c.if-b-limit.true))
 
-add-k : tie.Need-overflow_step-k invariant-loop decreases-loop
-add-k c = omega arith
+overflow_step-k : tie.Need-overflow_step-k invariant-loop-k decreases-loop-k
+overflow_step-k c = omega arith
 
-loop-less : tie.Need-loop-k-smaller invariant-loop decreases-loop
-loop-less c = omega arith
+loop-k-smaller : tie.Need-loop-k-smaller invariant-loop-k decreases-loop-k
+loop-k-smaller c = omega arith
 
-loop-again : tie.Need-loop-k-preserved invariant-loop decreases-loop
-loop-again c =
+loop-k-preserved : tie.Need-loop-k-preserved invariant-loop-k decreases-loop-k
+loop-k-preserved c =
     let a = c.args in
     (omega arith, below_next _ (below a.bytes.now a.from a.step a.limit) c.loop-k.invariant.1 (lt-ltb _ _ c.if-b-limit.false))
 
-returns-2 : tie.Need-returns invariant-loop decreases-loop
-returns-2 c =
+returns : tie.Need-returns invariant-loop-k decreases-loop-k
+returns c =
     let a = c.args in
     let e : c.loop-k.k ≡ a.count = omega arith in
     sym (ap (λ (n : ℕ). all_below n (below a.bytes.now a.from a.step a.limit)) (sym e) ∙ c.loop-k.invariant.1)
@@ -65,14 +65,14 @@ pub all_below_spec : {M : Type 1} → statement M
 all_below_spec =
     tie.close
     (tie.spec
-    invariant-loop
-    decreases-loop
-    loop-holds
-    mul-b
-    add-b
-    shared-slice-read-b
-    returns
-    add-k
-    loop-less
-    loop-again
-    returns-2)
+    invariant-loop-k
+    decreases-loop-k
+    loop-k-init
+    overflow_mul-b
+    overflow_add-b
+    bounds-bytes-from
+    returns-then-b-limit
+    overflow_step-k
+    loop-k-smaller
+    loop-k-preserved
+    returns)

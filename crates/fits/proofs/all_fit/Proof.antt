@@ -17,34 +17,34 @@ use Rattle.fits.proofs.all_fit.Tie as tie
 limit_is : (e : ℕ) → e < 8 → 1 * 2 ^ e % 256 ≡ 2 ^ e
 limit_is e h = ap (λ (x : ℕ). x % 256) (one-mul (2 ^ e)) ∙ mod-eq_of_lt (omega (arith, pow_mono {i = e} {j = 7} (omega arith)))
 
-mul-if1 : tie.Need-overflow_mul-size
-mul-if1 c = search rules
+overflow_mul-size : tie.Need-overflow_mul-size
+overflow_mul-size c = search rules
 
-returns : tie.Need-returns-then-width-size
-returns c = sym (whole-fit _ _ _ _ (λ i. (c.shared_slice_known-1.given i).fits) c.if-width-size.true)
+returns-then-width-size : tie.Need-returns-then-width-size
+returns-then-width-size c = sym (whole-fit _ _ _ _ (λ i. (c.shared_slice_known-1.given i).fits) c.if-width-size.true)
 
-add-limit : tie.Need-overflow_add-limit
-add-limit c = search rules
+overflow_add-limit : tie.Need-overflow_add-limit
+overflow_add-limit c = search rules
 
-mul-limit : tie.Need-overflow_mul-limit
-mul-limit c = search rules
+overflow_mul-limit : tie.Need-overflow_mul-limit
+overflow_mul-limit c = search rules
 
-sub-limit : tie.Need-overflow_sub-limit
-sub-limit c = search rules
+overflow_sub-limit : tie.Need-overflow_sub-limit
+overflow_sub-limit c = search rules
 
-cast-limit : tie.Need-overflow_cast-limit
-cast-limit c = search rules
+overflow_cast-limit : tie.Need-overflow_cast-limit
+overflow_cast-limit c = search rules
 
-shl-limit : tie.Need-overflow_shl-limit
-shl-limit c = search rules
+overflow_shl-limit : tie.Need-overflow_shl-limit
+overflow_shl-limit c = search rules
 
-first-bytes-below-requires : tie.Need-first_bytes_below-requires
-first-bytes-below-requires c κs =
+first_bytes_below-requires : tie.Need-first_bytes_below-requires
+first_bytes_below-requires c κs =
     let a = c.args in
     (c.requires.0, rw (limit_is (a.width + 8 - 8 * a.size) (omega arith)) (pow_pos (a.width + 8 - 8 * a.size)))
 
-returns-2 : tie.Need-returns
-returns-2 c =
+returns : tie.Need-returns
+returns c =
     let a = c.args in
     c.first_bytes_below.ensures
     ∙ ap (λ (x : ℕ). all_below (length a.dat.now / a.size) (λ k. ltb (get_or a.dat.now (k * a.size) 0) x)) (limit_is (a.width + 8 - 8 * a.size) (omega arith))
@@ -54,12 +54,12 @@ pub all_fit_spec : {M : Type 1} → statement M
 all_fit_spec =
     tie.close
     (tie.spec
-    mul-if1
-    returns
-    add-limit
-    mul-limit
-    sub-limit
-    cast-limit
-    shl-limit
-    first-bytes-below-requires
-    returns-2)
+    overflow_mul-size
+    returns-then-width-size
+    overflow_add-limit
+    overflow_mul-limit
+    overflow_sub-limit
+    overflow_cast-limit
+    overflow_shl-limit
+    first_bytes_below-requires
+    returns)

@@ -7,53 +7,53 @@ use Rattle.fits.specs.Internal.Rows.{greatest_of_four}
 use Rattle.fits.proofs.greatest_of_four.Statement.{statement}
 use Rattle.fits.proofs.greatest_of_four.Tie as tie
 
-add-larger : tie.Need-overflow_add-at
-add-larger c = search rules
+overflow_add-at : tie.Need-overflow_add-at
+overflow_add-at c = search rules
 
-shared-slice-read-larger : tie.Need-bounds-dat-at
-shared-slice-read-larger c = search rules
+bounds-dat-at : tie.Need-bounds-dat-at
+bounds-dat-at c = search rules
 
-add-larger-2 : tie.Need-overflow_add-at-2
-add-larger-2 c = search rules
+overflow_add-at-2 : tie.Need-overflow_add-at-2
+overflow_add-at-2 c = search rules
 
-add-larger-3 : tie.Need-overflow_add-at-3
-add-larger-3 c = search rules
+overflow_add-at-3 : tie.Need-overflow_add-at-3
+overflow_add-at-3 c = search rules
 
-shared-slice-read-larger-2 : tie.Need-bounds-dat-at-2
-shared-slice-read-larger-2 c = search rules
+bounds-dat-at-2 : tie.Need-bounds-dat-at-2
+bounds-dat-at-2 c = search rules
 
-larger-requires : tie.Need-larger-first-requires
+larger-first-requires : tie.Need-larger-first-requires
+larger-first-requires c κs = search rules
+
+overflow_mul-larger : tie.Need-overflow_mul-larger
+overflow_mul-larger c = search rules
+
+overflow_add-at-4 : tie.Need-overflow_add-at-4
+overflow_add-at-4 c = search rules
+
+overflow_add-at-5 : tie.Need-overflow_add-at-5
+overflow_add-at-5 c = search rules
+
+bounds-dat-at-3 : tie.Need-bounds-dat-at-3
+bounds-dat-at-3 c = search rules
+
+overflow_mul-larger-2 : tie.Need-overflow_mul-larger-2
+overflow_mul-larger-2 c = search rules
+
+overflow_add-at-6 : tie.Need-overflow_add-at-6
+overflow_add-at-6 c = search rules
+
+overflow_add-at-7 : tie.Need-overflow_add-at-7
+overflow_add-at-7 c = search rules
+
+bounds-dat-at-4 : tie.Need-bounds-dat-at-4
+bounds-dat-at-4 c = search rules
+
+larger-second-requires : tie.Need-larger-second-requires
+larger-second-requires c κs = search rules
+
+larger-requires : tie.Need-larger-requires
 larger-requires c κs = search rules
-
-mul-larger : tie.Need-overflow_mul-larger
-mul-larger c = search rules
-
-add-larger-4 : tie.Need-overflow_add-at-4
-add-larger-4 c = search rules
-
-add-larger-5 : tie.Need-overflow_add-at-5
-add-larger-5 c = search rules
-
-shared-slice-read-larger-3 : tie.Need-bounds-dat-at-3
-shared-slice-read-larger-3 c = search rules
-
-mul-larger-2 : tie.Need-overflow_mul-larger-2
-mul-larger-2 c = search rules
-
-add-larger-6 : tie.Need-overflow_add-at-6
-add-larger-6 c = search rules
-
-add-larger-7 : tie.Need-overflow_add-at-7
-add-larger-7 c = search rules
-
-shared-slice-read-larger-4 : tie.Need-bounds-dat-at-4
-shared-slice-read-larger-4 c = search rules
-
-larger-requires-2 : tie.Need-larger-second-requires
-larger-requires-2 c κs = search rules
-
-larger-requires-3 : tie.Need-larger-requires
-larger-requires-3 c κs = search rules
 
 returns : tie.Need-returns
 unfolding greatest_of_four
@@ -63,20 +63,20 @@ pub greatest_of_four_spec : {M : Type 1} → statement M
 greatest_of_four_spec =
     tie.close
     (tie.spec
-    add-larger
-    shared-slice-read-larger
-    add-larger-2
-    add-larger-3
-    shared-slice-read-larger-2
+    overflow_add-at
+    bounds-dat-at
+    overflow_add-at-2
+    overflow_add-at-3
+    bounds-dat-at-2
+    larger-first-requires
+    overflow_mul-larger
+    overflow_add-at-4
+    overflow_add-at-5
+    bounds-dat-at-3
+    overflow_mul-larger-2
+    overflow_add-at-6
+    overflow_add-at-7
+    bounds-dat-at-4
+    larger-second-requires
     larger-requires
-    mul-larger
-    add-larger-4
-    add-larger-5
-    shared-slice-read-larger-3
-    mul-larger-2
-    add-larger-6
-    add-larger-7
-    shared-slice-read-larger-4
-    larger-requires-2
-    larger-requires-3
     returns)

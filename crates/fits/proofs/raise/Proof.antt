@@ -9,41 +9,41 @@ use Rattle.fits.proofs.FirstBytes.{Raised, raised-none, raised-turn}
 use Rattle.fits.proofs.raise.Statement.{statement}
 use Rattle.fits.proofs.raise.Tie as tie
 
-abbrev invariant-loop : tie.invariant-loop-j
-invariant-loop tops₀ dat at j₀ tops j = (j ≤ 128) × (length tops ≡ 128) × Raised tops₀ dat at tops j
+abbrev invariant-loop-j : tie.invariant-loop-j
+invariant-loop-j tops₀ dat at j₀ tops j = (j ≤ 128) × (length tops ≡ 128) × Raised tops₀ dat at tops j
 
-abbrev decreases-loop : tie.decreases-loop-j
-decreases-loop tops₀ dat at j₀ tops j = 128 - j
+abbrev decreases-loop-j : tie.decreases-loop-j
+decreases-loop-j tops₀ dat at j₀ tops j = 128 - j
 
-loop-holds : tie.Need-loop-j-init invariant-loop decreases-loop
-loop-holds c = (omega arith, c.requires.0, raised-none _ _ _)
+loop-j-init : tie.Need-loop-j-init invariant-loop-j decreases-loop-j
+loop-j-init c = (omega arith, c.requires.0, raised-none _ _ _)
 
-greatest-of-four-requires : tie.Need-greatest_of_four-b-requires invariant-loop decreases-loop
-greatest-of-four-requires c κs = omega arith
+greatest_of_four-b-requires : tie.Need-greatest_of_four-b-requires invariant-loop-j decreases-loop-j
+greatest_of_four-b-requires c κs = omega arith
 
-slice-read-larger : tie.Need-bounds-tops-j invariant-loop decreases-loop
-slice-read-larger c = omega arith
+bounds-tops-j : tie.Need-bounds-tops-j invariant-loop-j decreases-loop-j
+bounds-tops-j c = omega arith
 
-larger-requires : tie.Need-larger-requires invariant-loop decreases-loop
+larger-requires : tie.Need-larger-requires invariant-loop-j decreases-loop-j
 larger-requires c κs = search rules
 
-slice-write-tops : tie.Need-bounds-tops-j-in-loop-j invariant-loop decreases-loop
-slice-write-tops c = omega arith
+bounds-tops-j-in-loop-j : tie.Need-bounds-tops-j-in-loop-j invariant-loop-j decreases-loop-j
+bounds-tops-j-in-loop-j c = omega arith
 
-add-j : tie.Need-overflow_step-j invariant-loop decreases-loop
-add-j c = omega arith
+overflow_step-j : tie.Need-overflow_step-j invariant-loop-j decreases-loop-j
+overflow_step-j c = omega arith
 
-loop-less : tie.Need-loop-j-smaller invariant-loop decreases-loop
-loop-less c = omega arith
+loop-j-smaller : tie.Need-loop-j-smaller invariant-loop-j decreases-loop-j
+loop-j-smaller c = omega arith
 
-loop-again : tie.Need-loop-j-preserved invariant-loop decreases-loop
-loop-again c =
+loop-j-preserved : tie.Need-loop-j-preserved invariant-loop-j decreases-loop-j
+loop-j-preserved c =
     (omega arith, rw length-set c.loop-j.invariant.1, raised-turn _ _ _ _ _ _ (omega arith) c.loop-j.invariant.2 (rw c.greatest_of_four-b.ensures at c.larger.ensures))
 
-same_length : tie.Need-shape_of-tops invariant-loop decreases-loop
-same_length c = omega arith
+shape_of-tops : tie.Need-shape_of-tops invariant-loop-j decreases-loop-j
+shape_of-tops c = omega arith
 
-returns : tie.Need-returns invariant-loop decreases-loop
+returns : tie.Need-returns invariant-loop-j decreases-loop-j
 returns c j h =
     let e : c.loop-j.j ≡ 128 = omega arith in
     c.loop-j.invariant.2.raised j (rw e h)
@@ -52,15 +52,15 @@ pub raise_spec : {M : Type 1} → statement M
 raise_spec =
     tie.close
     (tie.spec
-    invariant-loop
-    decreases-loop
-    loop-holds
-    greatest-of-four-requires
-    slice-read-larger
+    invariant-loop-j
+    decreases-loop-j
+    loop-j-init
+    greatest_of_four-b-requires
+    bounds-tops-j
     larger-requires
-    slice-write-tops
-    add-j
-    loop-less
-    loop-again
-    same_length
+    bounds-tops-j-in-loop-j
+    overflow_step-j
+    loop-j-smaller
+    loop-j-preserved
+    shape_of-tops
     returns)

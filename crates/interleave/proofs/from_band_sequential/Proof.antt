@@ -18,30 +18,30 @@ asked : (c : tie.Else-number-ne0)
     Accepted every_band a.nrows a.ncols a.nbands a.bytes_per_pixel (length a.«data».now) (length a.out.now)
 asked c = accepted _ _ _ _ _ _ _ (sym c.reorder_number-number.ensures ∙ c.if-number-ne0.false)
 
-slice-aggregate-reorder-number : tie.Need-slice_bounds-reorder_number-end
-slice-aggregate-reorder-number c = search rules
+slice_bounds-reorder_number-end : tie.Need-slice_bounds-reorder_number-end
+slice_bounds-reorder_number-end c = search rules
 
-reorder-number-requires : tie.Need-reorder_number-number-requires
-reorder-number-requires c κs = search rules
+reorder_number-number-requires : tie.Need-reorder_number-number-requires
+reorder_number-number-requires c κs = search rules
 
 refused-requires : tie.Need-refused-requires
 refused-requires c κs = search rules
 
-returns : tie.Need-returns-then-number-ne0
-returns c =
+returns-then-number-ne0 : tie.Need-returns-then-number-ne0
+returns-then-number-ne0 c =
     let a = c.args in
     reorder-refused S a.to_mode every_band a.nrows a.ncols a.nbands a.bytes_per_pixel a.«data».now a.out.now
     c.reorder_number-number.result c.refused.ensures c.reorder_number-number.ensures c.if-number-ne0.true
 
-from-planes-requires : tie.Need-from_planes-requires
-from-planes-requires c κs = search rules
+from_planes-requires : tie.Need-from_planes-requires
+from_planes-requires c κs = search rules
 
-same_length : tie.Need-shape_of-out
-same_length c = search rules
+shape_of-out : tie.Need-shape_of-out
+shape_of-out c = search rules
 
-returns-2 : tie.Need-returns
+returns : tie.Need-returns
 unfolding band_count pick
-returns-2 c =
+returns c =
     let e = c.before.before.before.before in
     let a = e.args in
     reorder-accepted S a.to_mode every_band a.nrows a.ncols a.nbands a.bytes_per_pixel a.«data».now a.out.now e.reorder_number-number.result _ _
@@ -51,10 +51,10 @@ pub from_band_sequential_spec : {M : Type 1} → statement M
 from_band_sequential_spec =
     tie.close
     (tie.spec
-    slice-aggregate-reorder-number
-    reorder-number-requires
+    slice_bounds-reorder_number-end
+    reorder_number-number-requires
     refused-requires
-    returns
-    from-planes-requires
-    same_length
-    returns-2)
+    returns-then-number-ne0
+    from_planes-requires
+    shape_of-out
+    returns)

@@ -18,34 +18,34 @@ asked : (c : tie.Else-number-ne0)
     Accepted (bands_of a.all a.bands.now) a.nrows a.ncols a.nbands a.bytes_per_pixel (length a.«data».now) (length a.out.now)
 asked c = accepted _ _ _ _ _ _ _ (sym c.reorder_number-number.ensures ∙ c.if-number-ne0.false)
 
-reorder-number-requires : tie.Need-reorder_number-number-requires
-reorder-number-requires c κs = search rules
+reorder_number-number-requires : tie.Need-reorder_number-number-requires
+reorder_number-number-requires c κs = search rules
 
 refused-requires : tie.Need-refused-requires
 refused-requires c κs = search rules
 
-returns : tie.Need-returns-then-number-ne0
-returns c =
+returns-then-number-ne0 : tie.Need-returns-then-number-ne0
+returns-then-number-ne0 c =
     let a = c.args in
     reorder-refused P S (bands_of a.all a.bands.now) a.nrows a.ncols a.nbands a.bytes_per_pixel a.«data».now a.out.now
     c.reorder_number-number.result c.refused.ensures c.reorder_number-number.ensures c.if-number-ne0.true
 
-to-planes-requires : tie.Need-to_planes-requires
-to-planes-requires c κs = search rules
+to_planes-requires : tie.Need-to_planes-requires
+to_planes-requires c κs = search rules
 
-band-count-requires : tie.Need-band_count-count-requires
-band-count-requires c κs = search rules
+band_count-count-requires : tie.Need-band_count-count-requires
+band_count-count-requires c κs = search rules
 
-output-bytes-requires : tie.Need-output_bytes-requires
-output-bytes-requires c κs =
+output_bytes-requires : tie.Need-output_bytes-requires
+output_bytes-requires c κs =
     let e = c.before.before.before.before.before in
     rw c.band_count-count.ensures (omega (arith, (asked e).room, e.before.before.before.before.before.well_formed))
 
-same_length : tie.Need-shape_of-out
-same_length c = search rules
+shape_of-out : tie.Need-shape_of-out
+shape_of-out c = search rules
 
-returns-2 : tie.Need-returns
-returns-2 c =
+returns : tie.Need-returns
+returns c =
     let b = c.before in
     let g = b.before.before.before in
     let e = g.before.before in
@@ -59,11 +59,11 @@ pub fused_bip_to_bsq_spec : {M : Type 1} → statement M
 fused_bip_to_bsq_spec =
     tie.close
     (tie.spec
-    reorder-number-requires
+    reorder_number-number-requires
     refused-requires
-    returns
-    to-planes-requires
-    band-count-requires
-    output-bytes-requires
-    same_length
-    returns-2)
+    returns-then-number-ne0
+    to_planes-requires
+    band_count-count-requires
+    output_bytes-requires
+    shape_of-out
+    returns)

@@ -12,17 +12,17 @@ use Rattle.marks.proofs.row_to_start.Tie as tie
 blocks : (c : tie.Start) → c.args.down * c.args.across ≤ 9999 * 9999
 blocks c = mul-le-mul c.requires.2 c.requires.1
 
-mul-full-words : tie.Need-overflow_mul-down
-mul-full-words c = omega (arith, blocks c.before)
+overflow_mul-down : tie.Need-overflow_mul-down
+overflow_mul-down c = omega (arith, blocks c.before)
 
-full-words-requires : tie.Need-full_words-words-requires
-full-words-requires c κs = search rules
+full_words-words-requires : tie.Need-full_words-words-requires
+full_words-words-requires c κs = search rules
 
-mul-result : tie.Need-overflow_mul-result
-mul-result c = omega (arith, blocks c.before.before, c.full_words-words.ensures.0)
+overflow_mul-result : tie.Need-overflow_mul-result
+overflow_mul-result c = omega (arith, blocks c.before.before, c.full_words-words.ensures.0)
 
-div-result : tie.Need-nonzero_div-result
-div-result c = search rules
+nonzero_div-result : tie.Need-nonzero_div-result
+nonzero_div-result c = search rules
 
 found : (c : tie.After-full_words-words) → let a = c.args in RowOf (c.full_words-words.result * 64) a.across a.down
 found c = row_of _ _ _ c.requires.0 (omega (arith, c.full_words-words.ensures.0))
@@ -32,4 +32,4 @@ returns c = ((found c).in_grid, λ i h. c.full_words-words.ensures.1 i (omega (a
 
 pub row_to_start_spec : {M : Type 1} → statement M
 row_to_start_spec =
-    tie.close (tie.spec mul-full-words full-words-requires mul-result div-result returns)
+    tie.close (tie.spec overflow_mul-down full_words-words-requires overflow_mul-result nonzero_div-result returns)

@@ -5,23 +5,23 @@ use Rattle.marks.proofs.Words.{set_word}
 use Rattle.marks.proofs.set_mark.Statement.{statement}
 use Rattle.marks.proofs.set_mark.Tie as tie
 
-mul-marks : tie.Need-offset_bounds-marks-word
-mul-marks c = search rules
+offset_bounds-marks-word : tie.Need-offset_bounds-marks-word
+offset_bounds-marks-word c = search rules
 
-slice-read-marks : tie.Need-bounds-marks-word
-slice-read-marks c = search rules
+bounds-marks-word : tie.Need-bounds-marks-word
+bounds-marks-word c = search rules
 
-shl-marks : tie.Need-overflow_shl-marks
-shl-marks c = search rules
+overflow_shl-marks : tie.Need-overflow_shl-marks
+overflow_shl-marks c = search rules
 
-mul-marks-2 : tie.Need-offset_bounds-marks-word-2
-mul-marks-2 c = search rules
+offset_bounds-marks-word-2 : tie.Need-offset_bounds-marks-word-2
+offset_bounds-marks-word-2 c = search rules
 
-slice-write-marks : tie.Need-bounds-marks-word-2
-slice-write-marks c = search rules
+bounds-marks-word-2 : tie.Need-bounds-marks-word-2
+bounds-marks-word-2 c = search rules
 
-same_length : tie.Need-shape_of-marks
-same_length c = search rules
+shape_of-marks : tie.Need-shape_of-marks
+shape_of-marks c = search rules
 
 returns : tie.Need-returns
 returns c = set_word c.args.marks.now c.args.i
@@ -30,10 +30,10 @@ pub set_mark_spec : {M : Type 1} → statement M
 set_mark_spec =
     tie.close
     (tie.spec
-    mul-marks
-    slice-read-marks
-    shl-marks
-    mul-marks-2
-    slice-write-marks
-    same_length
+    offset_bounds-marks-word
+    bounds-marks-word
+    overflow_shl-marks
+    offset_bounds-marks-word-2
+    bounds-marks-word-2
+    shape_of-marks
     returns)

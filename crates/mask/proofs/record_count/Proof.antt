@@ -7,17 +7,17 @@ use Rattle.mask.specs.Table.{records}
 use Rattle.mask.proofs.record_count.Statement.{statement}
 use Rattle.mask.proofs.record_count.Tie as tie
 
-blocks-requires : tie.Need-blocks-blocks-requires
-blocks-requires c κs = search rules
+blocks-blocks-requires : tie.Need-blocks-blocks-requires
+blocks-blocks-requires c κs = search rules
 
-bands-apart-requires : tie.Need-bands_apart-requires
-bands-apart-requires c κs = search rules
+bands_apart-requires : tie.Need-bands_apart-requires
+bands_apart-requires c κs = search rules
 
-cast-pick : tie.Need-overflow_cast-grid
-cast-pick c = search rules
+overflow_cast-grid : tie.Need-overflow_cast-grid
+overflow_cast-grid c = search rules
 
-mul-pick : tie.Need-overflow_mul-blocks
-mul-pick c =
+overflow_mul-blocks : tie.Need-overflow_mul-blocks
+overflow_mul-blocks c =
     rw c.blocks-blocks.ensures (omega (arith, (facts _ c.requires).slots_le))
 
 pick-requires : tie.Need-pick-requires
@@ -31,4 +31,4 @@ returns c =
 pub record_count_spec : {M : Type 1} → statement M
 record_count_spec =
     tie.close
-    (tie.spec blocks-requires bands-apart-requires cast-pick mul-pick pick-requires returns)
+    (tie.spec blocks-blocks-requires bands_apart-requires overflow_cast-grid overflow_mul-blocks pick-requires returns)

@@ -18,32 +18,32 @@ accepted c = sym c.block_number-number.ensures ∙ c.if-number-ne0.false
 facts : (c : tie.Else-number-ne0) → let a = c.args in Read a.grid (length a.image.now) a.block_row a.block_col a.resolution_level (bands_of a.all a.bands.now) (length a.out.now)
 facts c = read-facts _ _ _ _ _ _ _ (accepted c)
 
-block-number-requires : tie.Need-block_number-number-requires
-block-number-requires c κs = search rules
+block_number-number-requires : tie.Need-block_number-number-requires
+block_number-number-requires c κs = search rules
 
 refused-requires : tie.Need-refused-requires
 refused-requires c κs = search rules
 
-returns : tie.Need-returns-then-number-ne0
+returns-then-number-ne0 : tie.Need-returns-then-number-ne0
 unfolding block_read
-returns c =
+returns-then-number-ne0 c =
     rw c.refused.ensures
     (refused-by _ (λ n. filled_with (no_shape n) _) c.block_number-number.ensures c.if-number-ne0.true)
 
-block-layout-requires : tie.Need-block_layout-layout-requires
-block-layout-requires c κs = let t = facts c in (t.accepted, t.block)
+block_layout-layout-requires : tie.Need-block_layout-layout-requires
+block_layout-layout-requires c κs = let t = facts c in (t.accepted, t.block)
 
-read-planes-requires : tie.Need-read_planes-requires
-read-planes-requires c κs = rw c.block_layout-layout.ensures (block-readable _ _ _ _ _ _ _ (facts c.before.before))
+read_planes-requires : tie.Need-read_planes-requires
+read_planes-requires c κs = rw c.block_layout-layout.ensures (block-readable _ _ _ _ _ _ _ (facts c.before.before))
 
-band-count-requires : tie.Need-band_count-requires
-band-count-requires c κs = search rules
+band_count-requires : tie.Need-band_count-requires
+band_count-requires c κs = search rules
 
-same_length : tie.Need-shape_of-out
-same_length c = search rules
+shape_of-out : tie.Need-shape_of-out
+shape_of-out c = search rules
 
-returns-2 : tie.Need-returns
-returns-2 c =
+returns : tie.Need-returns
+returns c =
     let laid = c.before.before.before.before.before in
     let h = laid.before in
     let a = h.args in
@@ -55,11 +55,11 @@ pub decode_block_spec : {M : Type 1} → statement M
 decode_block_spec =
     tie.close
     (tie.spec
-    block-number-requires
+    block_number-number-requires
     refused-requires
-    returns
-    block-layout-requires
-    read-planes-requires
-    band-count-requires
-    same_length
-    returns-2)
+    returns-then-number-ne0
+    block_layout-layout-requires
+    read_planes-requires
+    band_count-requires
+    shape_of-out
+    returns)

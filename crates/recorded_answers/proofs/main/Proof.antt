@@ -5,14 +5,14 @@ use lib.ListN.{length-replicate}
 use Rattle.recorded_answers.proofs.main.Statement.{statement}
 use Rattle.recorded_answers.proofs.main.Tie as tie
 
-slice-aggregate-read-and-replay : tie.Need-slice_bounds-read_and_replay-end
-slice-aggregate-read-and-replay c = sym (length-replicate {A = ℕ} 600001 0)
+slice_bounds-read_and_replay-end : tie.Need-slice_bounds-read_and_replay-end
+slice_bounds-read_and_replay-end c = sym (length-replicate {A = ℕ} 600001 0)
 
-read-and-replay-requires : tie.Need-read_and_replay-requires
-read-and-replay-requires c κs = search rules
+read_and_replay-requires : tie.Need-read_and_replay-requires
+read_and_replay-requires c κs = search rules
 
 returns : tie.Need-returns
 returns c = search rules
 
 pub main_spec : {M : Type 1} → statement M
-main_spec = tie.close (tie.spec slice-aggregate-read-and-replay read-and-replay-requires returns)
+main_spec = tie.close (tie.spec slice_bounds-read_and_replay-end read_and_replay-requires returns)

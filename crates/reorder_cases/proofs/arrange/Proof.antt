@@ -8,71 +8,71 @@ use lib.ListN.{length}
 use Rattle.reorder_cases.proofs.arrange.Statement.{statement}
 use Rattle.reorder_cases.proofs.arrange.Tie as tie
 
-abbrev invariant-loop : tie.invariant-loop-k
-invariant-loop data₀ i size k₀ k-end «data» k = (k ≤ k-end) × (k-end ≡ length «data») × (length «data» ≡ length data₀)
+abbrev invariant-loop-k : tie.invariant-loop-k
+invariant-loop-k data₀ i size k₀ k-end «data» k = (k ≤ k-end) × (k-end ≡ length «data») × (length «data» ≡ length data₀)
 
-abbrev decreases-loop : tie.decreases-loop-k
-decreases-loop data₀ i size k₀ k-end «data» k = k-end - k
+abbrev decreases-loop-k : tie.decreases-loop-k
+decreases-loop-k data₀ i size k₀ k-end «data» k = k-end - k
 
-returns : tie.Need-returns-then-size-eq0 invariant-loop decreases-loop
+returns-then-size-eq0 : tie.Need-returns-then-size-eq0 invariant-loop-k decreases-loop-k
+returns-then-size-eq0 c = search rules
+
+loop-k-init : tie.Need-loop-k-init invariant-loop-k decreases-loop-k
+loop-k-init c = search rules
+
+nonzero_div-k : tie.Need-nonzero_div-k invariant-loop-k decreases-loop-k
+nonzero_div-k c = search rules
+
+sample_at-requires : tie.Need-sample_at-requires invariant-loop-k decreases-loop-k
+sample_at-requires c κs = search rules
+
+overflow_mul-data : tie.Need-overflow_mul-data invariant-loop-k decreases-loop-k
+overflow_mul-data c = omega arith
+
+nonzero_rem-data-in-loop-k : tie.Need-nonzero_rem-data-in-loop-k invariant-loop-k decreases-loop-k
+nonzero_rem-data-in-loop-k c = search rules
+
+overflow_cast-data : tie.Need-overflow_cast-data invariant-loop-k decreases-loop-k
+overflow_cast-data c = search rules
+
+overflow_add-data : tie.Need-overflow_add-data invariant-loop-k decreases-loop-k
+overflow_add-data c = omega arith
+
+bounds-data-k : tie.Need-bounds-data-k invariant-loop-k decreases-loop-k
+bounds-data-k c = omega arith
+
+overflow_step-k : tie.Need-overflow_step-k invariant-loop-k decreases-loop-k
+overflow_step-k c = omega arith
+
+loop-k-smaller : tie.Need-loop-k-smaller invariant-loop-k decreases-loop-k
+loop-k-smaller c = omega arith
+
+loop-k-preserved : tie.Need-loop-k-preserved invariant-loop-k decreases-loop-k
+loop-k-preserved c = search rules
+
+shape_of-data : tie.Need-shape_of-data invariant-loop-k decreases-loop-k
+shape_of-data c = c.loop-k.invariant.2
+
+returns : tie.Need-returns invariant-loop-k decreases-loop-k
 returns c = search rules
-
-loop-holds : tie.Need-loop-k-init invariant-loop decreases-loop
-loop-holds c = search rules
-
-div-sample-at : tie.Need-nonzero_div-k invariant-loop decreases-loop
-div-sample-at c = search rules
-
-sample-at-requires : tie.Need-sample_at-requires invariant-loop decreases-loop
-sample-at-requires c κs = search rules
-
-mul-data : tie.Need-overflow_mul-data invariant-loop decreases-loop
-mul-data c = omega arith
-
-rem-data : tie.Need-nonzero_rem-data-in-loop-k invariant-loop decreases-loop
-rem-data c = search rules
-
-cast-data : tie.Need-overflow_cast-data invariant-loop decreases-loop
-cast-data c = search rules
-
-add-data : tie.Need-overflow_add-data invariant-loop decreases-loop
-add-data c = omega arith
-
-slice-write-data : tie.Need-bounds-data-k invariant-loop decreases-loop
-slice-write-data c = omega arith
-
-add-k : tie.Need-overflow_step-k invariant-loop decreases-loop
-add-k c = omega arith
-
-loop-less : tie.Need-loop-k-smaller invariant-loop decreases-loop
-loop-less c = omega arith
-
-loop-again : tie.Need-loop-k-preserved invariant-loop decreases-loop
-loop-again c = search rules
-
-same_length : tie.Need-shape_of-data invariant-loop decreases-loop
-same_length c = c.loop-k.invariant.2
-
-returns-2 : tie.Need-returns invariant-loop decreases-loop
-returns-2 c = search rules
 
 pub arrange_spec : {M : Type 1} → statement M
 arrange_spec =
     tie.close
     (tie.spec
-    invariant-loop
-    decreases-loop
-    returns
-    loop-holds
-    div-sample-at
-    sample-at-requires
-    mul-data
-    rem-data
-    cast-data
-    add-data
-    slice-write-data
-    add-k
-    loop-less
-    loop-again
-    same_length
-    returns-2)
+    invariant-loop-k
+    decreases-loop-k
+    returns-then-size-eq0
+    loop-k-init
+    nonzero_div-k
+    sample_at-requires
+    overflow_mul-data
+    nonzero_rem-data-in-loop-k
+    overflow_cast-data
+    overflow_add-data
+    bounds-data-k
+    overflow_step-k
+    loop-k-smaller
+    loop-k-preserved
+    shape_of-data
+    returns)

@@ -6,31 +6,31 @@ use borrow.Author.Rules.{rules}
 use Rattle.reorder_cases.proofs.every_mode.Statement.{statement}
 use Rattle.reorder_cases.proofs.every_mode.Tie as tie
 
-abbrev invariant-loop : tie.invariant-loop-i
-invariant-loop size i₀ i = i ≤ 4
+abbrev invariant-loop-i : tie.invariant-loop-i
+invariant-loop-i size i₀ i = i ≤ 4
 
-abbrev decreases-loop : tie.decreases-loop-i
-decreases-loop size i₀ i = 4 - i
+abbrev decreases-loop-i : tie.decreases-loop-i
+decreases-loop-i size i₀ i = 4 - i
 
-loop-holds : tie.Need-loop-i-init invariant-loop decreases-loop
-loop-holds c = omega arith
+loop-i-init : tie.Need-loop-i-init invariant-loop-i decreases-loop-i
+loop-i-init c = omega arith
 
-reorder-requires : tie.Need-reorder-requires invariant-loop decreases-loop
+reorder-requires : tie.Need-reorder-requires invariant-loop-i decreases-loop-i
 reorder-requires c κs = search rules
 
-add-i : tie.Need-overflow_step-i invariant-loop decreases-loop
-add-i c = omega arith
+overflow_step-i : tie.Need-overflow_step-i invariant-loop-i decreases-loop-i
+overflow_step-i c = omega arith
 
-loop-less : tie.Need-loop-i-smaller invariant-loop decreases-loop
-loop-less c = omega arith
+loop-i-smaller : tie.Need-loop-i-smaller invariant-loop-i decreases-loop-i
+loop-i-smaller c = omega arith
 
-loop-again : tie.Need-loop-i-preserved invariant-loop decreases-loop
-loop-again c = omega arith
+loop-i-preserved : tie.Need-loop-i-preserved invariant-loop-i decreases-loop-i
+loop-i-preserved c = omega arith
 
-returns : tie.Need-returns invariant-loop decreases-loop
+returns : tie.Need-returns invariant-loop-i decreases-loop-i
 returns c = search rules
 
 pub every_mode_spec : {M : Type 1} → statement M
 every_mode_spec =
     tie.close
-    (tie.spec invariant-loop decreases-loop loop-holds reorder-requires add-i loop-less loop-again returns)
+    (tie.spec invariant-loop-i decreases-loop-i loop-i-init reorder-requires overflow_step-i loop-i-smaller loop-i-preserved returns)

@@ -10,19 +10,19 @@ use Rattle.windows.proofs.WindowQuestions.{leb_left}
 use Rattle.windows.proofs.is_inside.Statement.{statement}
 use Rattle.windows.proofs.is_inside.Tie as tie
 
-returns : tie.Need-returns-then-length-lt1
+returns-then-length-lt1 : tie.Need-returns-then-length-lt1
 unfolding inside every
-returns c = rw (lt-leb _ _ c.if-length-lt1.true)
+returns-then-length-lt1 c = rw (lt-leb _ _ c.if-length-lt1.true)
 
-returns-2 : tie.Need-returns-then-side-length
+returns-then-side-length : tie.Need-returns-then-side-length
 unfolding inside every
-returns-2 c =
+returns-then-side-length c =
     let a = c.args in
     rw (le-leb _ _ c.if-length-lt1.false, lt-leb (a.start + a.length) a.side (omega arith))
 
-returns-3 : tie.Need-returns
+returns : tie.Need-returns
 unfolding inside every
-returns-3 c = rw (le-leb _ _ c.if-length-lt1.false, leb_left _ _ _ c.if-side-length.false) (every-last _)
+returns c = rw (le-leb _ _ c.if-length-lt1.false, leb_left _ _ _ c.if-side-length.false) (every-last _)
 
 pub is_inside_spec : {M : Type 1} → statement M
-is_inside_spec = tie.close (tie.spec returns returns-2 returns-3)
+is_inside_spec = tie.close (tie.spec returns-then-length-lt1 returns-then-side-length returns)

@@ -10,29 +10,29 @@ use Rattle.windows.proofs.Answers.{window-read}
 use Rattle.windows.proofs.read_window.Statement.{statement}
 use Rattle.windows.proofs.read_window.Tie as tie
 
-window-number-requires : tie.Need-window_number-number-requires
-window-number-requires c κs = search rules
+window_number-number-requires : tie.Need-window_number-number-requires
+window_number-number-requires c κs = search rules
 
 refused-requires : tie.Need-refused-requires
 refused-requires c κs = search rules
 
-returns : tie.Need-returns-then-number-ne0
+returns-then-number-ne0 : tie.Need-returns-then-number-ne0
 unfolding window window_of
-returns c =
+returns-then-number-ne0 c =
     rw c.refused.ensures
     (refused-by _ (λ n. filled_with (no_shape n) _) c.window_number-number.ensures c.if-number-ne0.true)
 
-read-rectangle-requires : tie.Need-read_rectangle-requires
-read-rectangle-requires c κs = search rules
+read_rectangle-requires : tie.Need-read_rectangle-requires
+read_rectangle-requires c κs = search rules
 
-band-count-requires : tie.Need-band_count-requires
-band-count-requires c κs = search rules
+band_count-requires : tie.Need-band_count-requires
+band_count-requires c κs = search rules
 
-same_length : tie.Need-shape_of-out
-same_length c = search rules
+shape_of-out : tie.Need-shape_of-out
+shape_of-out c = search rules
 
-returns-2 : tie.Need-returns
-returns-2 c =
+returns : tie.Need-returns
+returns c =
     let read = c.before.before.before in
     let a = read.args in
     rw c.band_count.ensures
@@ -43,10 +43,10 @@ pub read_window_spec : {M : Type 1} → statement M
 read_window_spec =
     tie.close
     (tie.spec
-    window-number-requires
+    window_number-number-requires
     refused-requires
-    returns
-    read-rectangle-requires
-    band-count-requires
-    same_length
-    returns-2)
+    returns-then-number-ne0
+    read_rectangle-requires
+    band_count-requires
+    shape_of-out
+    returns)

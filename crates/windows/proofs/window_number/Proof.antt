@@ -32,11 +32,11 @@ past_4 c = c.before.before.before.before
 abbrev start : tie.Else-not-is_inside-2 → tie.Start
 start c = (past_4 c).before.before.before
 
-abbrev past-10 : tie.Else-image-block_end → tie.Else-not-is_inside-2
-past-10 c = c.before.before.before.before
+abbrev past_10 : tie.Else-image-block_end → tie.Else-not-is_inside-2
+past_10 c = c.before.before.before.before
 
-abbrev past-7 : tie.Else-not-bands_below → tie.Else-image-block_end
-past-7 c = c.before.before
+abbrev past_7 : tie.Else-not-bands_below → tie.Else-image-block_end
+past_7 c = c.before.before
 
 abbrev past_8 : tie.After-product_fits → tie.Else-not-bands_below
 past_8 c = c.before.before.before
@@ -46,136 +46,136 @@ accepted : (c : tie.Else-number-ne0) → Accepted c.args.grid
 accepted c = sym c.check-number.ensures ∙ c.if-number-ne0.false
 
 -- past question 10
-q10-yes : (c : tie.Else-not-is_inside-2) → let s = start c in q10 s.args.grid (asked s) ≡ true
+q10_yes : (c : tie.Else-not-is_inside-2) → let s = start c in q10 s.args.grid (asked s) ≡ true
 unfolding every
-q10-yes c =
+q10_yes c =
     rw (q10-sides, yes c.is_inside.ensures c.if-not-is_inside.false, yes c.is_inside-2.ensures c.if-not-is_inside-2.false)
 
 picture : (c : tie.Else-not-is_inside-2) → let s = start c in InPicture s.args.grid (asked s)
-picture c = q10-facts _ _ (q10-yes c)
+picture c = q10-facts _ _ (q10_yes c)
 
 -- past question 7
-q7-yes : (c : tie.Else-image-block_end) → let s = start (past-10 c) in q7_window s.args.grid s.args.image (asked s) ≡ true
-q7-yes c =
-    let d = past-10 c in
-    q7-last _ (accepted (past_4 d)) _ _ (q10-yes d) ∙ le-leb _ _ (rw c.block_end.ensures at c.if-image-block_end.false)
+q7_yes : (c : tie.Else-image-block_end) → let s = start (past_10 c) in q7_window s.args.grid s.args.image (asked s) ≡ true
+q7_yes c =
+    let d = past_10 c in
+    q7-last _ (accepted (past_4 d)) _ _ (q10_yes d) ∙ le-leb _ _ (rw c.block_end.ensures at c.if-image-block_end.false)
 
 -- past question 8
-q8-yes : (c : tie.Else-not-bands_below) → let s = start (past-10 (past-7 c)) in q8 s.args.grid.bands (asked s).bands ≡ true
-q8-yes c = yes c.bands_below.ensures c.if-not-bands_below.false
+q8_yes : (c : tie.Else-not-bands_below) → let s = start (past_10 (past_7 c)) in q8 s.args.grid.bands (asked s).bands ≡ true
+q8_yes c = yes c.bands_below.ensures c.if-not-bands_below.false
 
-band : (c : tie.Else-not-bands_below) → let a = (start (past-10 (past-7 c))).args in Plane a.rows a.columns (sample_bytes a.grid)
-band c = let d = past-10 (past-7 c) in plane _ (facts _ (accepted (past_4 d))) _ (picture d)
+band : (c : tie.Else-not-bands_below) → let a = (start (past_10 (past_7 c))).args in Plane a.rows a.columns (sample_bytes a.grid)
+band c = let d = past_10 (past_7 c) in plane _ (facts _ (accepted (past_4 d))) _ (picture d)
 
 -- question 9, as the code asks it
-q9-is : (c : tie.After-product_fits)
-    → let s = start (past-10 (past-7 (past_8 c))) in
+q9_is : (c : tie.After-product_fits)
+    → let s = start (past_10 (past_7 (past_8 c))) in
     let w = asked s in
     c.product_fits.result ≡ q9 (band_count s.args.grid.bands w.bands) w.rows w.columns (sample_bytes s.args.grid) s.args.room
-q9-is c =
+q9_is c =
     rw (c.sample_bytes.ensures, c.band_count.ensures) at c.product_fits.ensures ∙ room-is _ _ _ _ _
 
 -- the number, once question 8 is passed
 last : (c : tie.After-product_fits)
-    → let s = start (past-10 (past-7 (past_8 c))) in
+    → let s = start (past_10 (past_7 (past_8 c))) in
     window_number s.args.grid s.args.image (asked s) s.args.room ≡ ask 9 c.product_fits.result 0
 last c =
     let e = past_8 c in
-    let d = past-10 (past-7 e) in
-    rw (after-grid _ _ _ _ (accepted (past_4 d)), q10-yes d, q7-yes (past-7 e), q8-yes e)
-    (ap (λ (b : Bool). ask 9 b 0) (sym (q9-is c)))
+    let d = past_10 (past_7 e) in
+    rw (after-grid _ _ _ _ (accepted (past_4 d)), q10_yes d, q7_yes (past_7 e), q8_yes e)
+    (ap (λ (b : Bool). ask 9 b 0) (sym (q9_is c)))
 
-check-requires : tie.Need-check-number-requires
-check-requires c κs = search rules
+check-number-requires : tie.Need-check-number-requires
+check-number-requires c κs = search rules
 
-returns : tie.Need-returns-then-number-ne0
+returns-then-number-ne0 : tie.Need-returns-then-number-ne0
 unfolding window_number
-returns c = c.check-number.ensures ∙ sym (grid-no _ _ (λ z. c.if-number-ne0.true (c.check-number.ensures ∙ z)))
+returns-then-number-ne0 c = c.check-number.ensures ∙ sym (grid-no _ _ (λ z. c.if-number-ne0.true (c.check-number.ensures ∙ z)))
 
-is-inside-requires : tie.Need-is_inside-requires
-is-inside-requires c κs = search rules
+is_inside-requires : tie.Need-is_inside-requires
+is_inside-requires c κs = search rules
 
-returns-2 : tie.Need-returns-then-not-is_inside
+returns-then-not-is_inside : tie.Need-returns-then-not-is_inside
 unfolding every
-returns-2 c = rw (after-grid _ _ _ _ (accepted c.before.before), q10-sides, no c.is_inside.ensures c.if-not-is_inside.true)
+returns-then-not-is_inside c = rw (after-grid _ _ _ _ (accepted c.before.before), q10-sides, no c.is_inside.ensures c.if-not-is_inside.true)
 
-is-inside-requires-2 : tie.Need-is_inside-requires-2
-is-inside-requires-2 c κs = search rules
+is_inside-requires-2 : tie.Need-is_inside-requires-2
+is_inside-requires-2 c κs = search rules
 
-returns-3 : tie.Need-returns-then-not-is_inside-2
+returns-then-not-is_inside-2 : tie.Need-returns-then-not-is_inside-2
 unfolding every
-returns-3 c = rw (after-grid _ _ _ _ (accepted c.before.before.before.before), q10-sides, yes c.is_inside.ensures c.if-not-is_inside.false, no c.is_inside-2.ensures c.if-not-is_inside-2.true)
+returns-then-not-is_inside-2 c = rw (after-grid _ _ _ _ (accepted c.before.before.before.before), q10-sides, yes c.is_inside.ensures c.if-not-is_inside.false, no c.is_inside-2.ensures c.if-not-is_inside-2.true)
 
-sub-last-row : tie.Need-overflow_sub-last_row
-sub-last-row c = (picture c).rows-pos
+overflow_sub-last_row : tie.Need-overflow_sub-last_row
+overflow_sub-last_row c = (picture c).rows-pos
 
-add-last-row : tie.Need-overflow_add-last_row
-add-last-row c = record { fits = omega (arith, (picture c).rows_end, (facts _ (accepted c.before.before.before.before)).sides.nrows-le) }
+overflow_add-last_row : tie.Need-overflow_add-last_row
+overflow_add-last_row c = record { fits = omega (arith, (picture c).rows_end, (facts _ (accepted c.before.before.before.before)).sides.nrows-le) }
 
-div-last-row : tie.Need-nonzero_div-last_row
-div-last-row c = (facts _ (accepted c.before.before.before.before.before)).sides.nppbv-pos
+nonzero_div-last_row : tie.Need-nonzero_div-last_row
+nonzero_div-last_row c = (facts _ (accepted c.before.before.before.before.before)).sides.nppbv-pos
 
-sub-last-column : tie.Need-overflow_sub-last_column
-sub-last-column c = (picture c.before).columns-pos
+overflow_sub-last_column : tie.Need-overflow_sub-last_column
+overflow_sub-last_column c = (picture c.before).columns-pos
 
-add-last-column : tie.Need-overflow_add-last_column
-add-last-column c = record { fits = omega (arith, (picture c.before).columns-end, (facts _ (accepted c.before.before.before.before.before)).sides.ncols-le) }
+overflow_add-last_column : tie.Need-overflow_add-last_column
+overflow_add-last_column c = record { fits = omega (arith, (picture c.before).columns-end, (facts _ (accepted c.before.before.before.before.before)).sides.ncols-le) }
 
-div-last-column : tie.Need-nonzero_div-last_column
-div-last-column c = (facts _ (accepted c.before.before.before.before.before.before)).sides.nppbh-pos
+nonzero_div-last_column : tie.Need-nonzero_div-last_column
+nonzero_div-last_column c = (facts _ (accepted c.before.before.before.before.before.before)).sides.nppbh-pos
 
-cast-block-end : tie.Need-overflow_cast-last_row
-cast-block-end c =
+overflow_cast-last_row : tie.Need-overflow_cast-last_row
+overflow_cast-last_row c =
     let a = (start c.before.before).args in
     record { fits = omega (arith, div-le_self (a.row + (a.rows - 1)) a.grid.nppbv) }
 
-cast-block-end-2 : tie.Need-overflow_cast-last_column
-cast-block-end-2 c =
+overflow_cast-last_column : tie.Need-overflow_cast-last_column
+overflow_cast-last_column c =
     let a = (start c.before.before).args in
     record { fits = omega (arith, div-le_self (a.column + (a.columns - 1)) a.grid.nppbh) }
 
-block-end-requires : tie.Need-block_end-requires
-block-end-requires c κs =
+block_end-requires : tie.Need-block_end-requires
+block_end-requires c κs =
     let d = c.before.before in
     (accepted (past_4 d), last_block _ (facts _ (accepted (past_4 d))) _ (picture d))
 
-returns-4 : tie.Need-returns-then-image-block_end
-returns-4 c =
+returns-then-image-block_end : tie.Need-returns-then-image-block_end
+returns-then-image-block_end c =
     let d = c.before.before.before.before in
-    let q : q7_window _ _ _ ≡ false = q7-last _ (accepted (past_4 d)) _ _ (q10-yes d) ∙ lt-leb _ _ (rw c.block_end.ensures at c.if-image-block_end.true) in
-    rw (after-grid _ _ _ _ (accepted (past_4 d)), q10-yes d, q)
+    let q : q7_window _ _ _ ≡ false = q7-last _ (accepted (past_4 d)) _ _ (q10_yes d) ∙ lt-leb _ _ (rw c.block_end.ensures at c.if-image-block_end.true) in
+    rw (after-grid _ _ _ _ (accepted (past_4 d)), q10_yes d, q)
 
-bands-below-requires : tie.Need-bands_below-requires
-bands-below-requires c κs = search rules
+bands_below-requires : tie.Need-bands_below-requires
+bands_below-requires c κs = search rules
 
-returns-5 : tie.Need-returns-then-not-bands_below
-returns-5 c =
+returns-then-not-bands_below : tie.Need-returns-then-not-bands_below
+returns-then-not-bands_below c =
     let b = c.before.before in
     let d = b.before.before.before.before in
-    rw (after-grid _ _ _ _ (accepted (past_4 d)), q10-yes d, q7-yes b, no c.bands_below.ensures c.if-not-bands_below.true)
+    rw (after-grid _ _ _ _ (accepted (past_4 d)), q10_yes d, q7_yes b, no c.bands_below.ensures c.if-not-bands_below.true)
 
-mul-plane : tie.Need-overflow_mul-plane
-mul-plane c = record { fits = (band c).samples }
+overflow_mul-plane : tie.Need-overflow_mul-plane
+overflow_mul-plane c = record { fits = (band c).samples }
 
-sample-bytes-requires : tie.Need-sample_bytes-requires
-sample-bytes-requires c κs = search rules
+sample_bytes-requires : tie.Need-sample_bytes-requires
+sample_bytes-requires c κs = search rules
 
-mul-plane-2 : tie.Need-overflow_mul-plane-2
-mul-plane-2 c = rw c.sample_bytes.ensures (record { fits = (band c.before).bytes })
+overflow_mul-plane-2 : tie.Need-overflow_mul-plane-2
+overflow_mul-plane-2 c = rw c.sample_bytes.ensures (record { fits = (band c.before).bytes })
 
-band-count-requires : tie.Need-band_count-requires
-band-count-requires c κs = search rules
+band_count-requires : tie.Need-band_count-requires
+band_count-requires c κs = search rules
 
-product-fits-requires : tie.Need-product_fits-requires
-product-fits-requires c κs = search rules
+product_fits-requires : tie.Need-product_fits-requires
+product_fits-requires c κs = search rules
 
-returns-6 : tie.Need-returns-then-not-product_fits
-returns-6 c =
+returns-then-not-product_fits : tie.Need-returns-then-not-product_fits
+returns-then-not-product_fits c =
     let e : c.product_fits.result ≡ false = c.if-not-product_fits.true in
     sym (last c.before ∙ ap (λ (b : Bool). ask 9 b 0) e)
 
-returns-7 : tie.Need-returns
-returns-7 c =
+returns : tie.Need-returns
+returns c =
     let e : c.product_fits.result ≡ true = c.if-not-product_fits.false in
     sym (last c.before ∙ ap (λ (b : Bool). ask 9 b 0) e)
 
@@ -183,28 +183,28 @@ pub window_number_spec : {M : Type 1} → statement M
 window_number_spec =
     tie.close
     (tie.spec
-    check-requires
-    returns
-    is-inside-requires
-    returns-2
-    is-inside-requires-2
-    returns-3
-    sub-last-row
-    add-last-row
-    div-last-row
-    sub-last-column
-    add-last-column
-    div-last-column
-    cast-block-end
-    cast-block-end-2
-    block-end-requires
-    returns-4
-    bands-below-requires
-    returns-5
-    mul-plane
-    sample-bytes-requires
-    mul-plane-2
-    band-count-requires
-    product-fits-requires
-    returns-6
-    returns-7)
+    check-number-requires
+    returns-then-number-ne0
+    is_inside-requires
+    returns-then-not-is_inside
+    is_inside-requires-2
+    returns-then-not-is_inside-2
+    overflow_sub-last_row
+    overflow_add-last_row
+    nonzero_div-last_row
+    overflow_sub-last_column
+    overflow_add-last_column
+    nonzero_div-last_column
+    overflow_cast-last_row
+    overflow_cast-last_column
+    block_end-requires
+    returns-then-image-block_end
+    bands_below-requires
+    returns-then-not-bands_below
+    overflow_mul-plane
+    sample_bytes-requires
+    overflow_mul-plane-2
+    band_count-requires
+    product_fits-requires
+    returns-then-not-product_fits
+    returns)

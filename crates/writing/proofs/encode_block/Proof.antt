@@ -28,24 +28,24 @@ enough : (c : tie.Else-number-ne0)
     → let a = c.args in Enough a.grid (length a.image.now) (length a.marks.now) × Block a.grid a.block_row a.block_col
 enough c = write-facts _ _ _ _ _ _ _ _ _ _ (zero c)
 
-write-number-requires : tie.Need-write_number-number-requires
-write-number-requires c κs = search rules
+write_number-number-requires : tie.Need-write_number-number-requires
+write_number-number-requires c κs = search rules
 
 answer-requires : tie.Need-answer-requires
 answer-requires c κs = search rules
 
-returns : tie.Need-returns-then-number-ne0
+returns-then-number-ne0 : tie.Need-returns-then-number-ne0
 unfolding write
-returns c =
+returns-then-number-ne0 c =
     let a = c.args in
     rw c.answer.ensures
     (refused-by _ (unchanged a.image.now a.marks.now) c.write_number-number.ensures c.if-number-ne0.true)
 
-block-layout-requires : tie.Need-block_layout-requires
-block-layout-requires c κs = let k = enough c.before in (k.0.accepted, k.1)
+block_layout-requires : tie.Need-block_layout-requires
+block_layout-requires c κs = let k = enough c.before in (k.0.accepted, k.1)
 
-store-block-requires : tie.Need-store_block-requires
-store-block-requires c κs =
+store_block-requires : tie.Need-store_block-requires
+store_block-requires c κs =
     let h = c.before.before in
     let k = enough h in
     let exact = write_data _ _ _ _ _ _ _ _ _ _ (zero h) in
@@ -53,24 +53,24 @@ store-block-requires c κs =
     (writable _ k.0.accepted _ _ k.1 _ _ exact k.0.bytes
     (λ narrow. samples-fit _ k.0.accepted _ _ _ exact (write-fit _ _ _ _ _ _ _ _ _ _ (zero h))))
 
-block-index-requires : tie.Need-block_index-requires
-block-index-requires c κs = let k = enough (passed c.before.before.before) in (k.0.accepted, k.1)
+block_index-requires : tie.Need-block_index-requires
+block_index-requires c κs = let k = enough (passed c.before.before.before) in (k.0.accepted, k.1)
 
-set-mark-requires : tie.Need-set_mark-requires
-set-mark-requires c κs = let k = enough (passed c.before.before.before.before) in rw c.block_index.ensures (mark_in _ _ _ _ k.0.words k.1)
+set_mark-requires : tie.Need-set_mark-requires
+set_mark-requires c κs = let k = enough (passed c.before.before.before.before) in rw c.block_index.ensures (mark_in _ _ _ _ k.0.words k.1)
 
 answer-requires-2 : tie.Need-answer-requires-2
 answer-requires-2 c κs = search rules
 
-same_length : tie.Need-shape_of-image
-same_length c = search rules
+shape_of-image : tie.Need-shape_of-image
+shape_of-image c = search rules
 
-same-length-2 : tie.Need-shape_of-marks
-same-length-2 c = search rules
+shape_of-marks : tie.Need-shape_of-marks
+shape_of-marks c = search rules
 
-returns-2 : tie.Need-returns
+returns : tie.Need-returns
 unfolding write outcome
-returns-2 c =
+returns c =
     let marked = c.before.before.before in
     let stored = marked.before.before.before.before.before in
     let a = (passed stored).args in
@@ -87,14 +87,14 @@ pub encode_block_spec : {M : Type 1} → statement M
 encode_block_spec =
     tie.close
     (tie.spec
-    write-number-requires
+    write_number-number-requires
     answer-requires
-    returns
-    block-layout-requires
-    store-block-requires
-    block-index-requires
-    set-mark-requires
+    returns-then-number-ne0
+    block_layout-requires
+    store_block-requires
+    block_index-requires
+    set_mark-requires
     answer-requires-2
-    same_length
-    same-length-2
-    returns-2)
+    shape_of-image
+    shape_of-marks
+    returns)

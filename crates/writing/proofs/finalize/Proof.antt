@@ -21,57 +21,57 @@ zero c = sym c.buffers_number-number.ensures ∙ c.if-number-ne0.false
 enough : (c : tie.Else-number-ne0) → let a = c.args in Enough a.grid (length a.image.now) (length a.marks.now)
 enough c = start-facts _ _ _ (zero c)
 
-buffers-number-requires : tie.Need-buffers_number-number-requires
-buffers-number-requires c κs = search rules
+buffers_number-number-requires : tie.Need-buffers_number-number-requires
+buffers_number-number-requires c κs = search rules
 
 answer-requires : tie.Need-answer-requires
 answer-requires c κs = search rules
 
-returns : tie.Need-returns-then-number-ne0
+returns-then-number-ne0 : tie.Need-returns-then-number-ne0
 unfolding finish
-returns c = rw c.answer.ensures (refused-by _ number c.buffers_number-number.ensures c.if-number-ne0.true)
+returns-then-number-ne0 c = rw c.answer.ensures (refused-by _ number c.buffers_number-number.ensures c.if-number-ne0.true)
 
-cast-first-unmarked : tie.Need-overflow_cast-grid
-cast-first-unmarked c = search rules
+overflow_cast-grid : tie.Need-overflow_cast-grid
+overflow_cast-grid c = search rules
 
-cast-first-unmarked-2 : tie.Need-overflow_cast-grid-2
-cast-first-unmarked-2 c = search rules
+overflow_cast-grid-2 : tie.Need-overflow_cast-grid-2
+overflow_cast-grid-2 c = search rules
 
-first-unmarked-requires : tie.Need-first_unmarked-found-requires
-first-unmarked-requires c κs =
+first_unmarked-found-requires : tie.Need-first_unmarked-found-requires
+first_unmarked-found-requires c κs =
     let k = enough c.before.before in
     let f = facts _ k.accepted in
     (across-pos _ f, f.counts.nbpr-le, f.counts.nbpc-le, omega (arith, k.words))
 
-enum_told : tie.Need-enum_told-1
-enum_told c = search rules
+enum_told-1 : tie.Need-enum_told-1
+enum_told-1 c = search rules
 
-answer-requires-2 : tie.Need-answer-requires-in-None
-answer-requires-2 c κs = search rules
+answer-requires-in-None : tie.Need-answer-requires-in-None
+answer-requires-in-None c κs = search rules
 
-enum-known-found : tie.Need-enum_known-found
-enum-known-found c = search rules
+enum_known-found : tie.Need-enum_known-found
+enum_known-found c = search rules
 
-returns-2 : tie.Need-returns-in-None
+returns-in-None : tie.Need-returns-in-None
 unfolding finish outcome
-returns-2 c = rw (c.answer-in-None.ensures, zero c.before.before.before.before.before) (ap unmarked_answer c.in-None.ensures)
+returns-in-None c = rw (c.answer-in-None.ensures, zero c.before.before.before.before.before) (ap unmarked_answer c.in-None.ensures)
 
-returns-3 : tie.Need-returns-in-Block
+returns-in-Block : tie.Need-returns-in-Block
 unfolding finish outcome
-returns-3 c = rw (zero c.before.before.before.before) (ap unmarked_answer c.in-Block.ensures)
+returns-in-Block c = rw (zero c.before.before.before.before) (ap unmarked_answer c.in-Block.ensures)
 
 pub finalize_spec : {M : Type 1} → statement M
 finalize_spec =
     tie.close
     (tie.spec
-    buffers-number-requires
+    buffers_number-number-requires
     answer-requires
-    returns
-    cast-first-unmarked
-    cast-first-unmarked-2
-    first-unmarked-requires
-    enum_told
-    answer-requires-2
-    enum-known-found
-    returns-2
-    returns-3)
+    returns-then-number-ne0
+    overflow_cast-grid
+    overflow_cast-grid-2
+    first_unmarked-found-requires
+    enum_told-1
+    answer-requires-in-None
+    enum_known-found
+    returns-in-None
+    returns-in-Block)

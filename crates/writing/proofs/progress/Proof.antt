@@ -22,36 +22,36 @@ accepted : (c : tie.Else-number-ne0) → Accepted c.args.grid
 unfolding progress_number
 accepted c = accepted_of _ (grid-inv _ _ (zero c)).0
 
-marks-number-requires : tie.Need-marks_number-number-requires
-marks-number-requires c κs = search rules
+marks_number-number-requires : tie.Need-marks_number-number-requires
+marks_number-number-requires c κs = search rules
 
 answer-requires : tie.Need-answer-requires
 answer-requires c κs = search rules
 
-returns : tie.Need-returns-then-number-ne0
+returns-then-number-ne0 : tie.Need-returns-then-number-ne0
 unfolding progress
-returns c =
+returns-then-number-ne0 c =
     let a = c.args in
     rw c.answer.ensures
     (refused-by _ number c.marks_number-number.ensures c.if-number-ne0.true)
 
-blocks-requires : tie.Need-blocks-blocks-requires
-blocks-requires c κs = accepted c
+blocks-blocks-requires : tie.Need-blocks-blocks-requires
+blocks-blocks-requires c κs = accepted c
 
-count-marks-requires : tie.Need-count_marks-requires
-count-marks-requires c κs = omega (arith, c.blocks-blocks.ensures, progress-facts _ _ (zero c.before))
+count_marks-requires : tie.Need-count_marks-requires
+count_marks-requires c κs = omega (arith, c.blocks-blocks.ensures, progress-facts _ _ (zero c.before))
 
-returns-2 : tie.Need-returns
+returns : tie.Need-returns
 unfolding progress outcome
-returns-2 c = rw (c.count_marks.ensures, c.blocks-blocks.ensures, zero c.before.before)
+returns c = rw (c.count_marks.ensures, c.blocks-blocks.ensures, zero c.before.before)
 
 pub progress_spec : {M : Type 1} → statement M
 progress_spec =
     tie.close
     (tie.spec
-    marks-number-requires
+    marks_number-number-requires
     answer-requires
-    returns
-    blocks-requires
-    count-marks-requires
-    returns-2)
+    returns-then-number-ne0
+    blocks-blocks-requires
+    count_marks-requires
+    returns)

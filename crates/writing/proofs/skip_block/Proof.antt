@@ -23,44 +23,44 @@ enough : (c : tie.Else-number-ne0)
     → let a = c.args in Enough a.grid (length a.image.now) (length a.marks.now) × Block a.grid a.block_row a.block_col
 enough c = skip-facts _ _ _ _ _ (zero c)
 
-block-number-requires : tie.Need-block_number-number-requires
-block-number-requires c κs = search rules
+block_number-number-requires : tie.Need-block_number-number-requires
+block_number-number-requires c κs = search rules
 
 answer-requires : tie.Need-answer-requires
 answer-requires c κs = search rules
 
-returns : tie.Need-returns-then-number-ne0
+returns-then-number-ne0 : tie.Need-returns-then-number-ne0
 unfolding skip
-returns c =
+returns-then-number-ne0 c =
     let a = c.args in
     rw c.answer.ensures
     (refused-by _ (unchanged a.image.now a.marks.now) c.block_number-number.ensures c.if-number-ne0.true)
 
-block-index-requires : tie.Need-block_index-index-requires
-block-index-requires c κs = let k = enough c in (k.0.accepted, k.1)
+block_index-index-requires : tie.Need-block_index-index-requires
+block_index-index-requires c κs = let k = enough c in (k.0.accepted, k.1)
 
-set-mark-requires : tie.Need-set_mark-requires
-set-mark-requires c κs = let k = enough c.before.before in rw c.block_index-index.ensures (mark_in _ _ _ _ k.0.words k.1)
+set_mark-requires : tie.Need-set_mark-requires
+set_mark-requires c κs = let k = enough c.before.before in rw c.block_index-index.ensures (mark_in _ _ _ _ k.0.words k.1)
 
 answer-requires-2 : tie.Need-answer-requires-2
 answer-requires-2 c κs = search rules
 
-same_length : tie.Need-shape_of-marks
-same_length c = search rules
+shape_of-marks : tie.Need-shape_of-marks
+shape_of-marks c = search rules
 
-returns-2 : tie.Need-returns
+returns : tie.Need-returns
 unfolding skip outcome
-returns-2 c = rw (c.answer-2.ensures, c.set_mark.ensures, c.block_index-index.ensures, zero c.before.before.before.before.before.before)
+returns c = rw (c.answer-2.ensures, c.set_mark.ensures, c.block_index-index.ensures, zero c.before.before.before.before.before.before)
 
 pub skip_block_spec : {M : Type 1} → statement M
 skip_block_spec =
     tie.close
     (tie.spec
-    block-number-requires
+    block_number-number-requires
     answer-requires
-    returns
-    block-index-requires
-    set-mark-requires
+    returns-then-number-ne0
+    block_index-index-requires
+    set_mark-requires
     answer-requires-2
-    same_length
-    returns-2)
+    shape_of-marks
+    returns)

@@ -12,11 +12,11 @@ use Rattle.common.proofs.Over.{over_none, set-over}
 use Rattle.bits.proofs.bytes.copy.Statement.{statement}
 use Rattle.bits.proofs.bytes.copy.Tie as tie
 
-abbrev invariant-loop : tie.invariant-loop-j
-invariant-loop src p n out₀ q j₀ out j = (j ≤ n) × (out ≡ over out₀ q (take j (drop p src))) × (length out ≡ length out₀)
+abbrev invariant-loop-j : tie.invariant-loop-j
+invariant-loop-j src p n out₀ q j₀ out j = (j ≤ n) × (out ≡ over out₀ q (take j (drop p src))) × (length out ≡ length out₀)
 
-abbrev decreases-loop : tie.decreases-loop-j
-decreases-loop src p n out₀ q j₀ out j = n - j
+abbrev decreases-loop-j : tie.decreases-loop-j
+decreases-loop-j src p n out₀ q j₀ out j = n - j
 
 -- a turn: one more byte
 turn : (xs d ys : List ℕ) (p o j : ℕ) → ys ≡ over d o (take j (drop p xs)) → p + j < length xs → o + j < length d
@@ -28,29 +28,29 @@ turn xs d ys p o j ey h l =
     rw (ey, add-one, take-suc (drop p xs) j 0 (omega arith), get_or-drop)
     (ap (λ (a : ℕ). set (over d o r) (o + a) (get_or xs (p + j) 0)) (sym L) ∙ set-over d o r (get_or xs (p + j) 0) (omega arith))
 
-loop-holds : tie.Need-loop-j-init invariant-loop decreases-loop
-loop-holds c = (omega arith, sym (over_none c.args.out.now c.args.q), refl)
+loop-j-init : tie.Need-loop-j-init invariant-loop-j decreases-loop-j
+loop-j-init c = (omega arith, sym (over_none c.args.out.now c.args.q), refl)
 
-add-out : tie.Need-overflow_add-out invariant-loop decreases-loop
-add-out c = omega arith
+overflow_add-out : tie.Need-overflow_add-out invariant-loop-j decreases-loop-j
+overflow_add-out c = omega arith
 
-shared-slice-read-out : tie.Need-bounds-src-p invariant-loop decreases-loop
-shared-slice-read-out c = omega arith
+bounds-src-p : tie.Need-bounds-src-p invariant-loop-j decreases-loop-j
+bounds-src-p c = omega arith
 
-add-out-2 : tie.Need-overflow_add-out-in-loop-j invariant-loop decreases-loop
-add-out-2 c = omega arith
+overflow_add-out-in-loop-j : tie.Need-overflow_add-out-in-loop-j invariant-loop-j decreases-loop-j
+overflow_add-out-in-loop-j c = omega arith
 
-slice-write-out : tie.Need-bounds-out-q invariant-loop decreases-loop
-slice-write-out c = omega arith
+bounds-out-q : tie.Need-bounds-out-q invariant-loop-j decreases-loop-j
+bounds-out-q c = omega arith
 
-add-j : tie.Need-overflow_step-j invariant-loop decreases-loop
-add-j c = omega arith
+overflow_step-j : tie.Need-overflow_step-j invariant-loop-j decreases-loop-j
+overflow_step-j c = omega arith
 
-loop-less : tie.Need-loop-j-smaller invariant-loop decreases-loop
-loop-less c = omega arith
+loop-j-smaller : tie.Need-loop-j-smaller invariant-loop-j decreases-loop-j
+loop-j-smaller c = omega arith
 
-loop-again : tie.Need-loop-j-preserved invariant-loop decreases-loop
-loop-again c =
+loop-j-preserved : tie.Need-loop-j-preserved invariant-loop-j decreases-loop-j
+loop-j-preserved c =
     let head = c.before.before in
     let a = head.before.args in (
       omega arith,
@@ -58,25 +58,25 @@ loop-again c =
       rw length-set head.loop-j.invariant.2,
     )
 
-same_length : tie.Need-shape_of-out invariant-loop decreases-loop
-same_length c = omega arith
+shape_of-out : tie.Need-shape_of-out invariant-loop-j decreases-loop-j
+shape_of-out c = omega arith
 
-returns : tie.Need-returns invariant-loop decreases-loop
+returns : tie.Need-returns invariant-loop-j decreases-loop-j
 returns c = let e : c.before.loop-j.j ≡ c.before.before.args.n = omega arith in c.before.loop-j.invariant.1 ∙ rw e
 
 pub copy_spec : {M : Type 1} → statement M
 copy_spec =
     tie.close
     (tie.spec
-    invariant-loop
-    decreases-loop
-    loop-holds
-    add-out
-    shared-slice-read-out
-    add-out-2
-    slice-write-out
-    add-j
-    loop-less
-    loop-again
-    same_length
+    invariant-loop-j
+    decreases-loop-j
+    loop-j-init
+    overflow_add-out
+    bounds-src-p
+    overflow_add-out-in-loop-j
+    bounds-out-q
+    overflow_step-j
+    loop-j-smaller
+    loop-j-preserved
+    shape_of-out
     returns)

@@ -8,43 +8,43 @@ use borrow.Author.Rules.{rules}
 use Rattle.checklist.proofs.cube.fill.Statement.{statement}
 use Rattle.checklist.proofs.cube.fill.Tie as tie
 
-abbrev invariant-loop : tie.invariant-loop-k
-invariant-loop bytes₀ p k₀ bytes k = (k ≤ 36) × (length bytes ≡ length bytes₀)
+abbrev invariant-loop-k : tie.invariant-loop-k
+invariant-loop-k bytes₀ p k₀ bytes k = (k ≤ 36) × (length bytes ≡ length bytes₀)
 
-abbrev decreases-loop : tie.decreases-loop-k
-decreases-loop bytes₀ p k₀ bytes k = 36 - k
+abbrev decreases-loop-k : tie.decreases-loop-k
+decreases-loop-k bytes₀ p k₀ bytes k = 36 - k
 
-loop-holds : tie.Need-loop-k-init invariant-loop decreases-loop
-loop-holds c = search rules
+loop-k-init : tie.Need-loop-k-init invariant-loop-k decreases-loop-k
+loop-k-init c = search rules
 
-put-sample-requires : tie.Need-put_sample-requires invariant-loop decreases-loop
-put-sample-requires c κs = (search rules, search rules, omega arith)
+put_sample-requires : tie.Need-put_sample-requires invariant-loop-k decreases-loop-k
+put_sample-requires c κs = (search rules, search rules, omega arith)
 
-add-k : tie.Need-overflow_step-k invariant-loop decreases-loop
-add-k c = omega arith
+overflow_step-k : tie.Need-overflow_step-k invariant-loop-k decreases-loop-k
+overflow_step-k c = omega arith
 
-loop-less : tie.Need-loop-k-smaller invariant-loop decreases-loop
-loop-less c = omega arith
+loop-k-smaller : tie.Need-loop-k-smaller invariant-loop-k decreases-loop-k
+loop-k-smaller c = omega arith
 
-loop-again : tie.Need-loop-k-preserved invariant-loop decreases-loop
-loop-again c = (omega arith, omega (arith, c.put_sample.ensures))
+loop-k-preserved : tie.Need-loop-k-preserved invariant-loop-k decreases-loop-k
+loop-k-preserved c = (omega arith, omega (arith, c.put_sample.ensures))
 
-same_length : tie.Need-shape_of-bytes invariant-loop decreases-loop
-same_length c = c.loop-k.invariant.1
+shape_of-bytes : tie.Need-shape_of-bytes invariant-loop-k decreases-loop-k
+shape_of-bytes c = c.loop-k.invariant.1
 
-returns : tie.Need-returns invariant-loop decreases-loop
+returns : tie.Need-returns invariant-loop-k decreases-loop-k
 returns c = search rules
 
 pub fill_spec : {M : Type 1} → statement M
 fill_spec =
     tie.close
     (tie.spec
-    invariant-loop
-    decreases-loop
-    loop-holds
-    put-sample-requires
-    add-k
-    loop-less
-    loop-again
-    same_length
+    invariant-loop-k
+    decreases-loop-k
+    loop-k-init
+    put_sample-requires
+    overflow_step-k
+    loop-k-smaller
+    loop-k-preserved
+    shape_of-bytes
     returns)

@@ -7,35 +7,35 @@ use borrow.Author.Rules.{rules}
 use Rattle.checklist.proofs.cube.write_block.Statement.{statement}
 use Rattle.checklist.proofs.cube.write_block.Tie as tie
 
-block-at-requires : tie.Need-block_at-p-requires
-block-at-requires c κs = search rules
+block_at-p-requires : tie.Need-block_at-p-requires
+block_at-p-requires c κs = search rules
 
-slice-aggregate-fill : tie.Need-slice_bounds-fill-end
-slice-aggregate-fill c = search rules
+slice_bounds-fill-end : tie.Need-slice_bounds-fill-end
+slice_bounds-fill-end c = search rules
 
 fill-requires : tie.Need-fill-requires
 fill-requires c κs = search rules
 
-data-bytes-requires : tie.Need-data_bytes-n-requires
-data-bytes-requires c κs = search rules
+data_bytes-n-requires : tie.Need-data_bytes-n-requires
+data_bytes-n-requires c κs = search rules
 
-grid-in-requires : tie.Need-grid_in-requires
-grid-in-requires c κs = search rules
+grid_in-requires : tie.Need-grid_in-requires
+grid_in-requires c κs = search rules
 
-array-share-prefix-data : tie.Need-slice_bounds-data-end
-array-share-prefix-data c = search rules
+slice_bounds-data-end : tie.Need-slice_bounds-data-end
+slice_bounds-data-end c = search rules
 
-slice-aggregate-encode-block : tie.Need-slice_bounds-encode_block-end
-slice-aggregate-encode-block c = sym (length-take-le _ _ (omega arith))
+slice_bounds-encode_block-end : tie.Need-slice_bounds-encode_block-end
+slice_bounds-encode_block-end c = sym (length-take-le _ _ (omega arith))
 
-encode-block-requires : tie.Need-encode_block-requires
-encode-block-requires c κs = search rules
+encode_block-requires : tie.Need-encode_block-requires
+encode_block-requires c κs = search rules
 
-same_length : tie.Need-shape_of-image
-same_length c = search rules
+shape_of-image : tie.Need-shape_of-image
+shape_of-image c = search rules
 
-same-length-2 : tie.Need-shape_of-marks
-same-length-2 c = search rules
+shape_of-marks : tie.Need-shape_of-marks
+shape_of-marks c = search rules
 
 returns : tie.Need-returns
 returns c = search rules
@@ -44,14 +44,14 @@ pub write_block_spec : {M : Type 1} → statement M
 write_block_spec =
     tie.close
     (tie.spec
-    block-at-requires
-    slice-aggregate-fill
+    block_at-p-requires
+    slice_bounds-fill-end
     fill-requires
-    data-bytes-requires
-    grid-in-requires
-    array-share-prefix-data
-    slice-aggregate-encode-block
-    encode-block-requires
-    same_length
-    same-length-2
+    data_bytes-n-requires
+    grid_in-requires
+    slice_bounds-data-end
+    slice_bounds-encode_block-end
+    encode_block-requires
+    shape_of-image
+    shape_of-marks
     returns)

@@ -6,47 +6,47 @@ use borrow.Author.Rules.{rules}
 use Rattle.checklist.proofs.say.written.Statement.{statement}
 use Rattle.checklist.proofs.say.written.Tie as tie
 
-abbrev invariant-loop : tie.invariant-loop-i
-invariant-loop out sum₀ i₀ i-end sum i = (i ≤ i-end) × (sum ≤ i)
+abbrev invariant-loop-i : tie.invariant-loop-i
+invariant-loop-i out sum₀ i₀ i-end sum i = (i ≤ i-end) × (sum ≤ i)
 
-abbrev decreases-loop : tie.decreases-loop-i
-decreases-loop out sum₀ i₀ i-end sum i = i-end - i
+abbrev decreases-loop-i : tie.decreases-loop-i
+decreases-loop-i out sum₀ i₀ i-end sum i = i-end - i
 
-loop-holds : tie.Need-loop-i-init invariant-loop decreases-loop
-loop-holds c = omega arith
+loop-i-init : tie.Need-loop-i-init invariant-loop-i decreases-loop-i
+loop-i-init c = omega arith
 
-shared-slice-read-one-if-written : tie.Need-bounds-out-i invariant-loop decreases-loop
-shared-slice-read-one-if-written c = search rules
+bounds-out-i : tie.Need-bounds-out-i invariant-loop-i decreases-loop-i
+bounds-out-i c = search rules
 
-one-if-written-requires : tie.Need-one_if_written-sum-requires invariant-loop decreases-loop
-one-if-written-requires c κs = search rules
+one_if_written-sum-requires : tie.Need-one_if_written-sum-requires invariant-loop-i decreases-loop-i
+one_if_written-sum-requires c κs = search rules
 
-add-sum : tie.Need-overflow_add-sum invariant-loop decreases-loop
-add-sum c = omega arith
+overflow_add-sum : tie.Need-overflow_add-sum invariant-loop-i decreases-loop-i
+overflow_add-sum c = omega arith
 
-add-i : tie.Need-overflow_step-i invariant-loop decreases-loop
-add-i c = omega arith
+overflow_step-i : tie.Need-overflow_step-i invariant-loop-i decreases-loop-i
+overflow_step-i c = omega arith
 
-loop-less : tie.Need-loop-i-smaller invariant-loop decreases-loop
-loop-less c = omega arith
+loop-i-smaller : tie.Need-loop-i-smaller invariant-loop-i decreases-loop-i
+loop-i-smaller c = omega arith
 
-loop-again : tie.Need-loop-i-preserved invariant-loop decreases-loop
-loop-again c = (omega arith, omega (arith, c.one_if_written-sum.ensures))
+loop-i-preserved : tie.Need-loop-i-preserved invariant-loop-i decreases-loop-i
+loop-i-preserved c = (omega arith, omega (arith, c.one_if_written-sum.ensures))
 
-returns : tie.Need-returns invariant-loop decreases-loop
+returns : tie.Need-returns invariant-loop-i decreases-loop-i
 returns c = search rules
 
 pub written_spec : {M : Type 1} → statement M
 written_spec =
     tie.close
     (tie.spec
-    invariant-loop
-    decreases-loop
-    loop-holds
-    shared-slice-read-one-if-written
-    one-if-written-requires
-    add-sum
-    add-i
-    loop-less
-    loop-again
+    invariant-loop-i
+    decreases-loop-i
+    loop-i-init
+    bounds-out-i
+    one_if_written-sum-requires
+    overflow_add-sum
+    overflow_step-i
+    loop-i-smaller
+    loop-i-preserved
     returns)

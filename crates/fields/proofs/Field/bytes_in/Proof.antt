@@ -8,17 +8,17 @@ use Rattle.fields.specs.Fields.{bytes_in}
 use Rattle.fields.proofs.Field.bytes_in.Statement.{statement}
 use Rattle.fields.proofs.Field.bytes_in.Tie as tie
 
-add-end : tie.Need-overflow_add-end
-add-end c = search rules
+overflow_add-end : tie.Need-overflow_add-end
+overflow_add-end c = search rules
 
-sub-result : tie.Need-slice_bounds-result-count
-sub-result c = search rules
+slice_bounds-result-count : tie.Need-slice_bounds-result-count
+slice_bounds-result-count c = search rules
 
-part-result-start : tie.Need-slice_bounds-result-start
-part-result-start c = search rules
+slice_bounds-result-start : tie.Need-slice_bounds-result-start
+slice_bounds-result-start c = search rules
 
-part-result-end : tie.Need-slice_bounds-result-end
-part-result-end c = search rules
+slice_bounds-result-end : tie.Need-slice_bounds-result-end
+slice_bounds-result-end c = search rules
 
 returns : tie.Need-returns
 unfolding bytes_in
@@ -28,4 +28,4 @@ returns c =
     rw e
 
 pub bytes_in_spec : {M : Type 1} → statement M
-bytes_in_spec = tie.close (tie.spec add-end sub-result part-result-start part-result-end returns)
+bytes_in_spec = tie.close (tie.spec overflow_add-end slice_bounds-result-count slice_bounds-result-start slice_bounds-result-end returns)

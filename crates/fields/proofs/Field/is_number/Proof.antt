@@ -6,14 +6,14 @@ use Rattle.digits.specs.Digits.{are_digits}
 use Rattle.fields.proofs.Field.is_number.Statement.{statement}
 use Rattle.fields.proofs.Field.is_number.Tie as tie
 
-bytes-in-requires : tie.Need-bytes_in-requires
-bytes-in-requires c κs = search rules
+bytes_in-requires : tie.Need-bytes_in-requires
+bytes_in-requires c κs = search rules
 
-are-digits-requires : tie.Need-are_digits-requires
-are-digits-requires c κs = search rules
+are_digits-requires : tie.Need-are_digits-requires
+are_digits-requires c κs = search rules
 
 returns : tie.Need-returns
 returns c = c.are_digits.ensures ∙ ap are_digits c.bytes_in.ensures
 
 pub is_number_spec : {M : Type 1} → statement M
-is_number_spec = tie.close (tie.spec bytes-in-requires are-digits-requires returns)
+is_number_spec = tie.close (tie.spec bytes_in-requires are_digits-requires returns)

@@ -14,23 +14,23 @@ use Rattle.fields.proofs.Entries.{length-bytes_in, put-part}
 use Rattle.fields.proofs.Field.put_number.Statement.{statement}
 use Rattle.fields.proofs.Field.put_number.Tie as tie
 
-add-end : tie.Need-overflow_add-end
-add-end c = search rules
+overflow_add-end : tie.Need-overflow_add-end
+overflow_add-end c = search rules
 
-sub-put-digits : tie.Need-slice_bounds-put_digits-count
-sub-put-digits c = search rules
+slice_bounds-put_digits-count : tie.Need-slice_bounds-put_digits-count
+slice_bounds-put_digits-count c = search rules
 
-part-put-digits-start : tie.Need-slice_bounds-put_digits-start
-part-put-digits-start c = search rules
+slice_bounds-put_digits-start : tie.Need-slice_bounds-put_digits-start
+slice_bounds-put_digits-start c = search rules
 
-part-put-digits-end : tie.Need-slice_bounds-put_digits-end
-part-put-digits-end c = search rules
+slice_bounds-put_digits-end : tie.Need-slice_bounds-put_digits-end
+slice_bounds-put_digits-end c = search rules
 
-put-digits-requires : tie.Need-put_digits-requires
-put-digits-requires c κs = search rules
+put_digits-requires : tie.Need-put_digits-requires
+put_digits-requires c κs = search rules
 
-same_length : tie.Need-shape_of-part
-same_length c = search rules
+shape_of-part : tie.Need-shape_of-part
+shape_of-part c = search rules
 
 returns : tie.Need-returns
 unfolding bytes_in
@@ -48,10 +48,10 @@ pub put_number_spec : {M : Type 1} → statement M
 put_number_spec =
     tie.close
     (tie.spec
-    add-end
-    sub-put-digits
-    part-put-digits-start
-    part-put-digits-end
-    put-digits-requires
-    same_length
+    overflow_add-end
+    slice_bounds-put_digits-count
+    slice_bounds-put_digits-start
+    slice_bounds-put_digits-end
+    put_digits-requires
+    shape_of-part
     returns)

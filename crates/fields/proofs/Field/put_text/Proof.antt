@@ -10,8 +10,8 @@ use Rattle.fields.proofs.Field.put_text.Tie as tie
 copy-requires : tie.Need-copy-requires
 copy-requires c κs = search rules
 
-same_length : tie.Need-shape_of-part
-same_length c = search rules
+shape_of-part : tie.Need-shape_of-part
+shape_of-part c = search rules
 
 returns : tie.Need-returns
 returns c =
@@ -19,4 +19,4 @@ returns c =
     c.copy.ensures ∙ ap (over a.part.now a.self.at) (take-length a.text.now)
 
 pub put_text_spec : {M : Type 1} → statement M
-put_text_spec = tie.close (tie.spec copy-requires same_length returns)
+put_text_spec = tie.close (tie.spec copy-requires shape_of-part returns)

@@ -7,42 +7,42 @@ use Rattle.fields.specs.Named.{value_of}
 use Rattle.fields.proofs.named.mode_from_bytes.Statement.{statement}
 use Rattle.fields.proofs.named.mode_from_bytes.Tie as tie
 
-same-bytes-requires : tie.Need-same_bytes-requires
-same-bytes-requires c κs = search rules
+same_bytes-requires : tie.Need-same_bytes-requires
+same_bytes-requires c κs = search rules
 
-returns : tie.Need-returns-then-same_bytes
+returns-then-same_bytes : tie.Need-returns-then-same_bytes
 unfolding value_of pick
-returns c = simp (sym c.same_bytes.ensures ∙ c.if-same_bytes.true)
+returns-then-same_bytes c = simp (sym c.same_bytes.ensures ∙ c.if-same_bytes.true)
 
-same-bytes-requires-2 : tie.Need-same_bytes-requires-2
-same-bytes-requires-2 c κs = search rules
+same_bytes-requires-2 : tie.Need-same_bytes-requires-2
+same_bytes-requires-2 c κs = search rules
 
-returns-2 : tie.Need-returns-then-same_bytes-2
+returns-then-same_bytes-2 : tie.Need-returns-then-same_bytes-2
 unfolding value_of pick
-returns-2 c =
+returns-then-same_bytes-2 c =
     simp (
       sym c.same_bytes.ensures ∙ c.if-same_bytes.false,
       sym c.same_bytes-2.ensures ∙ c.if-same_bytes-2.true,
     )
 
-same-bytes-requires-3 : tie.Need-same_bytes-requires-3
-same-bytes-requires-3 c κs = search rules
+same_bytes-requires-3 : tie.Need-same_bytes-requires-3
+same_bytes-requires-3 c κs = search rules
 
-returns-3 : tie.Need-returns-then-same_bytes-3
+returns-then-same_bytes-3 : tie.Need-returns-then-same_bytes-3
 unfolding value_of pick
-returns-3 c =
+returns-then-same_bytes-3 c =
     simp (
       sym c.same_bytes.ensures ∙ c.if-same_bytes.false,
       sym c.same_bytes-2.ensures ∙ c.if-same_bytes-2.false,
       sym c.same_bytes-3.ensures ∙ c.if-same_bytes-3.true,
     )
 
-same-bytes-requires-4 : tie.Need-same_bytes-requires-4
-same-bytes-requires-4 c κs = search rules
+same_bytes-requires-4 : tie.Need-same_bytes-requires-4
+same_bytes-requires-4 c κs = search rules
 
-returns-4 : tie.Need-returns-then-same_bytes-4
+returns-then-same_bytes-4 : tie.Need-returns-then-same_bytes-4
 unfolding value_of pick
-returns-4 c =
+returns-then-same_bytes-4 c =
     simp (
       sym c.same_bytes.ensures ∙ c.if-same_bytes.false,
       sym c.same_bytes-2.ensures ∙ c.if-same_bytes-2.false,
@@ -50,9 +50,9 @@ returns-4 c =
       sym c.same_bytes-4.ensures ∙ c.if-same_bytes-4.true,
     )
 
-returns-5 : tie.Need-returns
+returns : tie.Need-returns
 unfolding value_of pick
-returns-5 c =
+returns c =
     simp (
       sym c.same_bytes.ensures ∙ c.if-same_bytes.false,
       sym c.same_bytes-2.ensures ∙ c.if-same_bytes-2.false,
@@ -64,12 +64,12 @@ pub mode_from_bytes_spec : {M : Type 1} → statement M
 mode_from_bytes_spec =
     tie.close
     (tie.spec
-    same-bytes-requires
-    returns
-    same-bytes-requires-2
-    returns-2
-    same-bytes-requires-3
-    returns-3
-    same-bytes-requires-4
-    returns-4
-    returns-5)
+    same_bytes-requires
+    returns-then-same_bytes
+    same_bytes-requires-2
+    returns-then-same_bytes-2
+    same_bytes-requires-3
+    returns-then-same_bytes-3
+    same_bytes-requires-4
+    returns-then-same_bytes-4
+    returns)

@@ -7,17 +7,17 @@ use Rattle.fields.proofs.Values.{named_by}
 use Rattle.fields.proofs.named.mode_is_named.Statement.{statement}
 use Rattle.fields.proofs.named.mode_is_named.Tie as tie
 
-mode-from-bytes-requires : tie.Need-mode_from_bytes-requires
-mode-from-bytes-requires c κs = search rules
+mode_from_bytes-requires : tie.Need-mode_from_bytes-requires
+mode_from_bytes-requires c κs = search rules
 
-mode-to-bytes-requires : tie.Need-mode_to_bytes-text-requires
-mode-to-bytes-requires c κs = search rules
+mode_to_bytes-text-requires : tie.Need-mode_to_bytes-text-requires
+mode_to_bytes-text-requires c κs = search rules
 
-slice-aggregate-same-bytes : tie.Need-slice_bounds-same_bytes-end
-slice-aggregate-same-bytes c = search rules
+slice_bounds-same_bytes-end : tie.Need-slice_bounds-same_bytes-end
+slice_bounds-same_bytes-end c = search rules
 
-same-bytes-requires : tie.Need-same_bytes-requires
-same-bytes-requires c κs = search rules
+same_bytes-requires : tie.Need-same_bytes-requires
+same_bytes-requires c κs = search rules
 
 returns : tie.Need-returns
 returns c =
@@ -28,8 +28,8 @@ pub mode_is_named_spec : {M : Type 1} → statement M
 mode_is_named_spec =
     tie.close
     (tie.spec
-    mode-from-bytes-requires
-    mode-to-bytes-requires
-    slice-aggregate-same-bytes
-    same-bytes-requires
+    mode_from_bytes-requires
+    mode_to_bytes-text-requires
+    slice_bounds-same_bytes-end
+    same_bytes-requires
     returns)

@@ -11,47 +11,47 @@ use Rattle.fields.proofs.Values.{same_length, same_stop, same-go}
 use Rattle.fields.proofs.named.same_bytes.Statement.{statement}
 use Rattle.fields.proofs.named.same_bytes.Tie as tie
 
-abbrev invariant-loop : tie.invariant-loop-j
-invariant-loop a b j₀ j-end j =
+abbrev invariant-loop-j : tie.invariant-loop-j
+invariant-loop-j a b j₀ j-end j =
     (j ≤ length a) × (j-end ≡ length a) × (length a ≡ length b) × (same_bytes (drop j a) (drop j b) ≡ same_bytes a b)
 
-abbrev decreases-loop : tie.decreases-loop-j
-decreases-loop a b j₀ j-end j = length a - j
+abbrev decreases-loop-j : tie.decreases-loop-j
+decreases-loop-j a b j₀ j-end j = length a - j
 
-returns : tie.Need-returns-then-a-b invariant-loop decreases-loop
-returns c = sym (same_length c.args.a.now c.args.b.now c.if-a-b.true)
+returns-then-a-b : tie.Need-returns-then-a-b invariant-loop-j decreases-loop-j
+returns-then-a-b c = sym (same_length c.args.a.now c.args.b.now c.if-a-b.true)
 
-loop-holds : tie.Need-loop-j-init invariant-loop decreases-loop
-loop-holds c = (omega arith, refl, c.if-a-b.false, refl)
+loop-j-init : tie.Need-loop-j-init invariant-loop-j decreases-loop-j
+loop-j-init c = (omega arith, refl, c.if-a-b.false, refl)
 
-shared-slice-read-if2 : tie.Need-bounds-a-j invariant-loop decreases-loop
-shared-slice-read-if2 c = omega arith
+bounds-a-j : tie.Need-bounds-a-j invariant-loop-j decreases-loop-j
+bounds-a-j c = omega arith
 
-shared-slice-read-if2-2 : tie.Need-bounds-b-j invariant-loop decreases-loop
-shared-slice-read-if2-2 c = omega arith
+bounds-b-j : tie.Need-bounds-b-j invariant-loop-j decreases-loop-j
+bounds-b-j c = omega arith
 
-returns-2 : tie.Need-returns-then-a-j invariant-loop decreases-loop
-returns-2 c =
+returns-then-a-j : tie.Need-returns-then-a-j invariant-loop-j decreases-loop-j
+returns-then-a-j c =
     let xs : List ℕ = c.args.a.now in
     let ys : List ℕ = c.args.b.now in
     sym (sym c.loop-j.invariant.3 ∙ same_stop xs ys c.loop-j.j (omega arith) (omega (arith, c.loop-j.invariant.2)) c.if-a-j.true)
 
-add-j : tie.Need-overflow_step-j invariant-loop decreases-loop
-add-j c = omega arith
+overflow_step-j : tie.Need-overflow_step-j invariant-loop-j decreases-loop-j
+overflow_step-j c = omega arith
 
-loop-less : tie.Need-loop-j-smaller invariant-loop decreases-loop
-loop-less c = omega arith
+loop-j-smaller : tie.Need-loop-j-smaller invariant-loop-j decreases-loop-j
+loop-j-smaller c = omega arith
 
-loop-again : tie.Need-loop-j-preserved invariant-loop decreases-loop
-loop-again c =
+loop-j-preserved : tie.Need-loop-j-preserved invariant-loop-j decreases-loop-j
+loop-j-preserved c =
     let xs : List ℕ = c.args.a.now in
     let ys : List ℕ = c.args.b.now in
     let go = same-go xs ys c.loop-j.j (omega arith) (omega (arith, c.loop-j.invariant.2)) c.if-a-j.false in
     (omega arith, refl, c.loop-j.invariant.2, go ∙ c.loop-j.invariant.3)
 
-returns-3 : tie.Need-returns invariant-loop decreases-loop
+returns : tie.Need-returns invariant-loop-j decreases-loop-j
 unfolding same_bytes
-returns-3 c =
+returns c =
     let xs : List ℕ = c.args.a.now in
     let ys : List ℕ = c.args.b.now in
     let e : c.loop-j.j ≡ length xs = omega arith in
@@ -62,14 +62,14 @@ pub same_bytes_spec : {M : Type 1} → statement M
 same_bytes_spec =
     tie.close
     (tie.spec
-    invariant-loop
-    decreases-loop
-    returns
-    loop-holds
-    shared-slice-read-if2
-    shared-slice-read-if2-2
-    returns-2
-    add-j
-    loop-less
-    loop-again
-    returns-3)
+    invariant-loop-j
+    decreases-loop-j
+    returns-then-a-b
+    loop-j-init
+    bounds-a-j
+    bounds-b-j
+    returns-then-a-j
+    overflow_step-j
+    loop-j-smaller
+    loop-j-preserved
+    returns)

@@ -7,9 +7,9 @@ use Rattle.gezdunar.proofs.Named.{named}
 use Rattle.gezdunar.proofs.names.named_grid.Statement.{statement}
 use Rattle.gezdunar.proofs.names.named_grid.Tie as tie
 
-returns : tie.Need-returns-in-Rule
+returns-in-Rule : tie.Need-returns-in-Rule
 unfolding named_grid
-returns c =
+returns-in-Rule c =
     let h = ap Known c.grid_in.ensures in
     search named
 
@@ -18,4 +18,4 @@ unfolding named_grid
 named_grid_spec =
     tie.close
     (tie.spec (λ c κs. search named) (λ c. search named) (λ c κs. search named) (λ c. search named) (λ c κs. search named)
-    (λ c. search named) (λ c. search named) returns (λ c. search named) (λ c. search named))
+    (λ c. search named) (λ c. search named) returns-in-Rule (λ c. search named) (λ c. search named))

@@ -13,22 +13,22 @@ use Rattle.gezdunar.proofs.subheaders.answer_of.Tie as tie
 abbrev accepted : SubheaderBytes → SubheaderAnswer
 accepted b = record { number = 0; subheader = b }
 
-no-bytes-requires : tie.Need-no_bytes-requires
-no-bytes-requires c κs = search rules
+no_bytes-requires : tie.Need-no_bytes-requires
+no_bytes-requires c κs = search rules
 
-returns : tie.Need-returns-then-read-ne0
+returns-then-read-ne0 : tie.Need-returns-then-read-ne0
 unfolding answer_of
-returns c =
+returns-then-read-ne0 c =
     c.no_bytes.ensures ∙ refused-by _ _ refl c.if-read-ne0.true
 
-bytes-of-requires : tie.Need-bytes_of-requires
-bytes-of-requires c κs = search rules
+bytes_of-requires : tie.Need-bytes_of-requires
+bytes_of-requires c κs = search rules
 
-returns-2 : tie.Need-returns
+returns : tie.Need-returns
 unfolding answer_of
-returns-2 c =
+returns c =
     ap accepted c.bytes_of.ensures ∙ sym (outcome-yes _ _ c.if-read-ne0.false)
 
 pub answer_of_spec : {M : Type 1} → statement M
 answer_of_spec =
-    tie.close (tie.spec no-bytes-requires returns bytes-of-requires returns-2)
+    tie.close (tie.spec no_bytes-requires returns-then-read-ne0 bytes_of-requires returns)

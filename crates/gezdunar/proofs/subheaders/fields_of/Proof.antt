@@ -4,32 +4,32 @@ use borrow.Author.Rules.{rules}
 use Rattle.gezdunar.proofs.subheaders.fields_of.Statement.{statement}
 use Rattle.gezdunar.proofs.subheaders.fields_of.Tie as tie
 
-slice-aggregate-from-bytes : tie.Need-slice_bounds-from_bytes-end
-slice-aggregate-from-bytes c = search rules
+slice_bounds-from_bytes-end : tie.Need-slice_bounds-from_bytes-end
+slice_bounds-from_bytes-end c = search rules
 
-from-bytes-requires : tie.Need-from_bytes-requires
-from-bytes-requires c κs = search rules
+from_bytes-requires : tie.Need-from_bytes-requires
+from_bytes-requires c κs = search rules
 
-slice-aggregate-from-bytes-2 : tie.Need-slice_bounds-from_bytes-end-2
-slice-aggregate-from-bytes-2 c = search rules
+slice_bounds-from_bytes-end-2 : tie.Need-slice_bounds-from_bytes-end-2
+slice_bounds-from_bytes-end-2 c = search rules
 
-from-bytes-requires-2 : tie.Need-from_bytes-requires-2
-from-bytes-requires-2 c κs = search rules
+from_bytes-requires-2 : tie.Need-from_bytes-requires-2
+from_bytes-requires-2 c κs = search rules
 
-slice-aggregate-from-bytes-3 : tie.Need-slice_bounds-from_bytes-end-3
-slice-aggregate-from-bytes-3 c = search rules
+slice_bounds-from_bytes-end-3 : tie.Need-slice_bounds-from_bytes-end-3
+slice_bounds-from_bytes-end-3 c = search rules
 
-from-bytes-requires-3 : tie.Need-from_bytes-requires-3
-from-bytes-requires-3 c κs = search rules
+from_bytes-requires-3 : tie.Need-from_bytes-requires-3
+from_bytes-requires-3 c κs = search rules
 
-slice-aggregate-mode-from-bytes : tie.Need-slice_bounds-mode_from_bytes-end
-slice-aggregate-mode-from-bytes c = search rules
+slice_bounds-mode_from_bytes-end : tie.Need-slice_bounds-mode_from_bytes-end
+slice_bounds-mode_from_bytes-end c = search rules
 
-mode-from-bytes-requires : tie.Need-mode_from_bytes-requires
-mode-from-bytes-requires c κs = search rules
+mode_from_bytes-requires : tie.Need-mode_from_bytes-requires
+mode_from_bytes-requires c κs = search rules
 
-grid-in-requires : tie.Need-grid_in-requires
-grid-in-requires c κs = search rules
+grid_in-requires : tie.Need-grid_in-requires
+grid_in-requires c κs = search rules
 
 returns : tie.Need-returns
 returns c =
@@ -46,13 +46,13 @@ pub fields_of_spec : {M : Type 1} → statement M
 fields_of_spec =
     tie.close
     (tie.spec
-    slice-aggregate-from-bytes
-    from-bytes-requires
-    slice-aggregate-from-bytes-2
-    from-bytes-requires-2
-    slice-aggregate-from-bytes-3
-    from-bytes-requires-3
-    slice-aggregate-mode-from-bytes
-    mode-from-bytes-requires
-    grid-in-requires
+    slice_bounds-from_bytes-end
+    from_bytes-requires
+    slice_bounds-from_bytes-end-2
+    from_bytes-requires-2
+    slice_bounds-from_bytes-end-3
+    from_bytes-requires-3
+    slice_bounds-mode_from_bytes-end
+    mode_from_bytes-requires
+    grid_in-requires
     returns)

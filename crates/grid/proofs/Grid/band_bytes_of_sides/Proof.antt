@@ -19,23 +19,23 @@ square c = prod_le _ _ _ _ (sides c).nppbh-le (sides c).nppbv-le
 whole : (c : tie.Start) → c.args.self.nppbh * c.args.self.nppbv * c.args.self.nbpp ≤ 99_999_999 * 99_999_999 * 64
 whole c = prod_le _ _ _ _ (square c) (sides c).nbpp-le
 
-cast-h : tie.Need-overflow_cast-h
-cast-h c = search rules
+overflow_cast-h : tie.Need-overflow_cast-h
+overflow_cast-h c = search rules
 
-cast-v : tie.Need-overflow_cast-v
-cast-v c = search rules
+overflow_cast-v : tie.Need-overflow_cast-v
+overflow_cast-v c = search rules
 
-cast-w : tie.Need-overflow_cast-w
-cast-w c = search rules
+overflow_cast-w : tie.Need-overflow_cast-w
+overflow_cast-w c = search rules
 
-mul-result : tie.Need-overflow_mul-result
-mul-result c = omega (arith, square c.before.before.before)
+overflow_mul-result : tie.Need-overflow_mul-result
+overflow_mul-result c = omega (arith, square c.before.before.before)
 
-mul-result-2 : tie.Need-overflow_mul-result-2
-mul-result-2 c = omega (arith, whole c.before.before.before)
+overflow_mul-result-2 : tie.Need-overflow_mul-result-2
+overflow_mul-result-2 c = omega (arith, whole c.before.before.before)
 
-add-result : tie.Need-overflow_add-result
-add-result c = omega (arith, whole c.before.before.before)
+overflow_add-result : tie.Need-overflow_add-result
+overflow_add-result c = omega (arith, whole c.before.before.before)
 
 returns : tie.Need-returns
 unfolding band_bytes
@@ -43,4 +43,4 @@ returns c = refl
 
 pub band_bytes_of_sides_spec : {M : Type 1} → statement M
 band_bytes_of_sides_spec =
-    tie.close (tie.spec cast-h cast-v cast-w mul-result mul-result-2 add-result returns)
+    tie.close (tie.spec overflow_cast-h overflow_cast-v overflow_cast-w overflow_mul-result overflow_mul-result-2 overflow_add-result returns)

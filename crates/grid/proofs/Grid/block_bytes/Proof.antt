@@ -8,14 +8,14 @@ use Rattle.grid.proofs.Accepted.{facts, block-le}
 use Rattle.grid.proofs.Grid.block_bytes.Statement.{statement}
 use Rattle.grid.proofs.Grid.block_bytes.Tie as tie
 
-cast-result : tie.Need-overflow_cast-result
-cast-result c = search rules
+overflow_cast-result : tie.Need-overflow_cast-result
+overflow_cast-result c = search rules
 
-band-bytes-requires : tie.Need-band_bytes-requires
-band-bytes-requires c κs = search rules
+band_bytes-requires : tie.Need-band_bytes-requires
+band_bytes-requires c κs = search rules
 
-mul-result : tie.Need-overflow_mul-result
-mul-result c =
+overflow_mul-result : tie.Need-overflow_mul-result
+overflow_mul-result c =
     let g = c.args.self in
     let e = c.requires in
     rw c.band_bytes.ensures (omega (arith, block-le g (facts g e), (facts g e).image-le))
@@ -24,4 +24,4 @@ returns : tie.Need-returns
 returns c = ap (λ (t : ℕ). c.args.self.bands * t) c.band_bytes.ensures
 
 pub block_bytes_spec : {M : Type 1} → statement M
-block_bytes_spec = tie.close (tie.spec cast-result band-bytes-requires mul-result returns)
+block_bytes_spec = tie.close (tie.spec overflow_cast-result band_bytes-requires overflow_mul-result returns)

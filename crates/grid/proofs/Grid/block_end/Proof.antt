@@ -7,8 +7,8 @@ use Rattle.grid.proofs.BlockLayouts.{end_is, sound}
 use Rattle.grid.proofs.Grid.block_end.Statement.{statement}
 use Rattle.grid.proofs.Grid.block_end.Tie as tie
 
-block-layout-requires : tie.Need-block_layout-requires
-block-layout-requires c κs = search rules
+block_layout-requires : tie.Need-block_layout-requires
+block_layout-requires c κs = search rules
 
 end-requires : tie.Need-end-requires
 end-requires c κs = let s = c.before in rw c.block_layout.ensures (sound _ (facts _ s.requires.0) _ _ s.requires.1)
@@ -19,4 +19,4 @@ returns c =
     rw c.block_layout.ensures at c.end.ensures ∙ sym (end_is _ (facts _ s.requires.0) _ _ s.requires.1)
 
 pub block_end_spec : {M : Type 1} → statement M
-block_end_spec = tie.close (tie.spec block-layout-requires end-requires returns)
+block_end_spec = tie.close (tie.spec block_layout-requires end-requires returns)

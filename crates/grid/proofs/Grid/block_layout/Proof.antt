@@ -13,12 +13,12 @@ use Rattle.grid.proofs.Grid.block_layout.Statement.{statement}
 use Rattle.grid.proofs.Grid.block_layout.Tie as tie
 
 -- the first byte, as the code computes it
-first-is : (c : tie.After-pick)
+first_is : (c : tie.After-pick)
     → let i = c.before.before in
     let b = i.before.before.before.before.before in
     let a = b.args in
     i.block_index.result * c.pick.result ≡ first_byte a.self.imode a.self (block_index a.self a.row a.column)
-first-is c =
+first_is c =
     let i = c.before.before in
     let b = i.before.before.before.before.before in
     rw (
@@ -29,17 +29,17 @@ first-is c =
       b.band_bytes-t.ensures,
     )
 
-mul-first : tie.Need-overflow_mul-first
-mul-first c =
+overflow_mul-first : tie.Need-overflow_mul-first
+overflow_mul-first c =
     let i = c.before.before in
     let b = i.before.before.before.before.before in
     let s = b.before in
     let f = facts _ s.requires.0 in
     let w = runs_in s.args.self.imode s.args.self f _ (index_lt _ _ _ s.requires.1) in
-    rw (first-is c) (omega (arith, w.counted, f.image-le))
+    rw (first_is c) (omega (arith, w.counted, f.image-le))
 
-mul-pick : tie.Need-overflow_mul-blocks
-mul-pick c =
+overflow_mul-blocks : tie.Need-overflow_mul-blocks
+overflow_mul-blocks c =
     let i = c.before.before.before in
     let b = i.before.before.before.before.before in
     let f = facts _ b.requires.0 in
@@ -55,7 +55,7 @@ returns c =
     let w = r.before.before in
     let t = w.before.before in
     rw (
-      first-is p,
+      first_is p,
       c.pick-run_columns.ensures,
       c.held-2.ensures,
       c.pick-run_rows.ensures,
@@ -73,6 +73,6 @@ pub block_layout_spec : {M : Type 1} → statement M
 block_layout_spec =
     tie.close
     (tie.spec (λ c κs. search rules) (λ c κs. search rules) (λ c κs. search rules) (λ c κs. search rules)
-    (λ c κs. search rules) (λ c κs. search rules) (λ c κs. search rules) (λ c κs. search rules) mul-first
-    (λ c κs. search rules) mul-pick (λ c κs. search rules) (λ c. search rules) (λ c. search rules)
+    (λ c κs. search rules) (λ c κs. search rules) (λ c κs. search rules) (λ c κs. search rules) overflow_mul-first
+    (λ c κs. search rules) overflow_mul-blocks (λ c κs. search rules) (λ c. search rules) (λ c. search rules)
     (λ c κs. search rules) (λ c κs. search rules) (λ c κs. search rules) (λ c κs. search rules) returns)

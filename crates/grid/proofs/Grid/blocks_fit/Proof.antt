@@ -18,27 +18,27 @@ last : (g : Grid) → g.nbpr ≡ ceil_div g.ncols g.nppbh → g.nbpc ≡ ceil_di
 unfolding q3 every
 last g e f h = simp (eq-eqb _ _ e, eq-eqb _ _ f, le-leb _ _ h) (every-last _)
 
-ceil-div-requires : tie.Need-ceil_div-requires
-ceil-div-requires c κs = search rules
+ceil_div-requires : tie.Need-ceil_div-requires
+ceil_div-requires c κs = search rules
 
-returns : tie.Need-returns-then-self-ceil_div
+returns-then-self-ceil_div : tie.Need-returns-then-self-ceil_div
 unfolding q3 every
-returns c = simp (ne_eqb _ _ (λ e. c.if-self-ceil_div.true (e ∙ sym c.ceil_div.ensures)))
+returns-then-self-ceil_div c = simp (ne_eqb _ _ (λ e. c.if-self-ceil_div.true (e ∙ sym c.ceil_div.ensures)))
 
-ceil-div-requires-2 : tie.Need-ceil_div-requires-2
-ceil-div-requires-2 c κs = search rules
+ceil_div-requires-2 : tie.Need-ceil_div-requires-2
+ceil_div-requires-2 c κs = search rules
 
-returns-2 : tie.Need-returns-then-self-ceil_div-2
+returns-then-self-ceil_div-2 : tie.Need-returns-then-self-ceil_div-2
 unfolding q3 every
-returns-2 c =
+returns-then-self-ceil_div-2 c =
     simp (
       eq-eqb _ _ (c.if-self-ceil_div.false ∙ c.ceil_div.ensures),
       ne_eqb _ _ (λ e. c.if-self-ceil_div-2.true (e ∙ sym c.ceil_div-2.ensures)),
     )
 
-returns-3 : tie.Need-returns-then-self-gt-MAX_BLOCKS
+returns-then-self-gt-MAX_BLOCKS : tie.Need-returns-then-self-gt-MAX_BLOCKS
 unfolding q3 every
-returns-3 c =
+returns-then-self-gt-MAX_BLOCKS c =
     let down = c.before.before in
     let across = down.before.before.before in
     simp (
@@ -47,8 +47,8 @@ returns-3 c =
       lt-leb _ _ c.if-self-gt-MAX_BLOCKS.true,
     )
 
-returns-4 : tie.Need-returns
-returns-4 c =
+returns : tie.Need-returns
+returns c =
     let down = c.before.before.before in
     let across = down.before.before.before in
     last _ (across.if-self-ceil_div.false ∙ across.ceil_div.ensures) (down.if-self-ceil_div-2.false ∙ down.ceil_div-2.ensures)
@@ -57,4 +57,4 @@ returns-4 c =
 pub blocks_fit_spec : {M : Type 1} → statement M
 blocks_fit_spec =
     tie.close
-    (tie.spec ceil-div-requires returns ceil-div-requires-2 returns-2 returns-3 returns-4)
+    (tie.spec ceil_div-requires returns-then-self-ceil_div ceil_div-requires-2 returns-then-self-ceil_div-2 returns-then-self-gt-MAX_BLOCKS returns)

@@ -23,52 +23,52 @@ counted : (c : tie.Else-not-blocks_fit)
     let g = sized.args.self in (q1 g ≡ true) × (width_taken g.nbpp ≡ true) × (q3 g ≡ true)
 counted c = let w = wide c.before.before in (w.0, w.1, yes c.blocks_fit.ensures c.if-not-blocks_fit.false)
 
-sides-fit-requires : tie.Need-sides_fit-requires
-sides-fit-requires c κs = search rules
+sides_fit-requires : tie.Need-sides_fit-requires
+sides_fit-requires c κs = search rules
 
-returns : tie.Need-returns-then-not-sides_fit
+returns-then-not-sides_fit : tie.Need-returns-then-not-sides_fit
 unfolding grid_number
-returns c = simp (no c.sides_fit.ensures c.if-not-sides_fit.true)
+returns-then-not-sides_fit c = simp (no c.sides_fit.ensures c.if-not-sides_fit.true)
 
-width-bytes-requires : tie.Need-width_bytes-requires
-width-bytes-requires c κs = search rules
+width_bytes-requires : tie.Need-width_bytes-requires
+width_bytes-requires c κs = search rules
 
-returns-2 : tie.Need-returns-then-width_bytes-eq0
+returns-then-width_bytes-eq0 : tie.Need-returns-then-width_bytes-eq0
 unfolding grid_number
-returns-2 c =
+returns-then-width_bytes-eq0 c =
     simp (
       yes c.sides_fit.ensures c.if-not-sides_fit.false,
       refused c.args.self.nbpp (sym c.width_bytes.ensures ∙ c.if-width_bytes-eq0.true),
     )
 
-blocks-fit-requires : tie.Need-blocks_fit-requires
-blocks-fit-requires c κs = search rules
+blocks_fit-requires : tie.Need-blocks_fit-requires
+blocks_fit-requires c κs = search rules
 
-returns-3 : tie.Need-returns-then-not-blocks_fit
+returns-then-not-blocks_fit : tie.Need-returns-then-not-blocks_fit
 unfolding grid_number
-returns-3 c = simp ((wide c.before.before).0, (wide c.before.before).1, no c.blocks_fit.ensures c.if-not-blocks_fit.true)
+returns-then-not-blocks_fit c = simp ((wide c.before.before).0, (wide c.before.before).1, no c.blocks_fit.ensures c.if-not-blocks_fit.true)
 
-image-fits-requires : tie.Need-image_fits-requires
-image-fits-requires c κs = ((wide c.before.before).0, (wide c.before.before).1, yes c.blocks_fit.ensures c.if-not-blocks_fit.false)
+image_fits-requires : tie.Need-image_fits-requires
+image_fits-requires c κs = ((wide c.before.before).0, (wide c.before.before).1, yes c.blocks_fit.ensures c.if-not-blocks_fit.false)
 
-returns-4 : tie.Need-returns-then-not-image_fits
+returns-then-not-image_fits : tie.Need-returns-then-not-image_fits
 unfolding grid_number
-returns-4 c = simp ((counted c.before.before).0, (counted c.before.before).1, (counted c.before.before).2, no c.image_fits.ensures c.if-not-image_fits.true)
+returns-then-not-image_fits c = simp ((counted c.before.before).0, (counted c.before.before).1, (counted c.before.before).2, no c.image_fits.ensures c.if-not-image_fits.true)
 
-returns-5 : tie.Need-returns
+returns : tie.Need-returns
 unfolding grid_number
-returns-5 c = simp ((counted c.before.before).0, (counted c.before.before).1, (counted c.before.before).2, yes c.image_fits.ensures c.if-not-image_fits.false)
+returns c = simp ((counted c.before.before).0, (counted c.before.before).1, (counted c.before.before).2, yes c.image_fits.ensures c.if-not-image_fits.false)
 
 pub check_spec : {M : Type 1} → statement M
 check_spec =
     tie.close
     (tie.spec
-    sides-fit-requires
-    returns
-    width-bytes-requires
-    returns-2
-    blocks-fit-requires
-    returns-3
-    image-fits-requires
-    returns-4
-    returns-5)
+    sides_fit-requires
+    returns-then-not-sides_fit
+    width_bytes-requires
+    returns-then-width_bytes-eq0
+    blocks_fit-requires
+    returns-then-not-blocks_fit
+    image_fits-requires
+    returns-then-not-image_fits
+    returns)

@@ -7,13 +7,13 @@ use Rattle.grid.specs.Check.{q6}
 use Rattle.grid.proofs.Grid.has_block.Statement.{statement}
 use Rattle.grid.proofs.Grid.has_block.Tie as tie
 
-returns : tie.Need-returns-then-row-self
+returns-then-row-self : tie.Need-returns-then-row-self
 unfolding q6 every
-returns c = rw (le-ltb _ _ c.if-row-self.true)
+returns-then-row-self c = rw (le-ltb _ _ c.if-row-self.true)
 
-returns-2 : tie.Need-returns
+returns : tie.Need-returns
 unfolding q6 every
-returns-2 c = rw (lt-ltb _ _ c.if-row-self.false) (every-last _)
+returns c = rw (lt-ltb _ _ c.if-row-self.false) (every-last _)
 
 pub has_block_spec : {M : Type 1} → statement M
-has_block_spec = tie.close (tie.spec returns returns-2)
+has_block_spec = tie.close (tie.spec returns-then-row-self returns)

@@ -9,17 +9,17 @@ use Rattle.grid.proofs.Grid.image_bytes.Tie as tie
 blocks-requires : tie.Need-blocks-requires
 blocks-requires c κs = search rules
 
-cast-result : tie.Need-overflow_cast-result
-cast-result c = search rules
+overflow_cast-result : tie.Need-overflow_cast-result
+overflow_cast-result c = search rules
 
-mul-result : tie.Need-overflow_mul-result
-mul-result c = rw c.blocks-2.ensures (omega (arith, (facts _ c.requires).slots_le))
+overflow_mul-result : tie.Need-overflow_mul-result
+overflow_mul-result c = rw c.blocks-2.ensures (omega (arith, (facts _ c.requires).slots_le))
 
-band-bytes-requires : tie.Need-band_bytes-requires
-band-bytes-requires c κs = search rules
+band_bytes-requires : tie.Need-band_bytes-requires
+band_bytes-requires c κs = search rules
 
-mul-result-2 : tie.Need-overflow_mul-result-2
-mul-result-2 c = rw (c.blocks-2.ensures, c.band_bytes.ensures) (omega (arith, (facts _ c.requires).image-le))
+overflow_mul-result-2 : tie.Need-overflow_mul-result-2
+overflow_mul-result-2 c = rw (c.blocks-2.ensures, c.band_bytes.ensures) (omega (arith, (facts _ c.requires).image-le))
 
 returns : tie.Need-returns
 returns c = rw (c.blocks-2.ensures, c.band_bytes.ensures)
@@ -27,4 +27,4 @@ returns c = rw (c.blocks-2.ensures, c.band_bytes.ensures)
 pub image_bytes_spec : {M : Type 1} → statement M
 image_bytes_spec =
     tie.close
-    (tie.spec blocks-requires cast-result mul-result band-bytes-requires mul-result-2 returns)
+    (tie.spec blocks-requires overflow_cast-result overflow_mul-result band_bytes-requires overflow_mul-result-2 returns)

@@ -15,28 +15,28 @@ sides c = sized c.args.self c.requires.0 c.requires.1
 counts : (c : tie.Start) → Counted c.args.self
 counts c = counted c.args.self c.requires.2
 
-band-bytes-of-sides-requires : tie.Need-band_bytes_of_sides-t-requires
-band-bytes-of-sides-requires c κs = search rules
+band_bytes_of_sides-t-requires : tie.Need-band_bytes_of_sides-t-requires
+band_bytes_of_sides-t-requires c κs = search rules
 
-cast-across : tie.Need-overflow_cast-across
-cast-across c = search rules
+overflow_cast-across : tie.Need-overflow_cast-across
+overflow_cast-across c = search rules
 
-cast-down : tie.Need-overflow_cast-down
-cast-down c = search rules
+overflow_cast-down : tie.Need-overflow_cast-down
+overflow_cast-down c = search rules
 
-cast-bands : tie.Need-overflow_cast-bands
-cast-bands c = search rules
+overflow_cast-bands : tie.Need-overflow_cast-bands
+overflow_cast-bands c = search rules
 
-mul-result : tie.Need-overflow_mul-result
-mul-result c = omega (arith, blocks-top _ (counts c.before.before.before.before))
+overflow_mul-result : tie.Need-overflow_mul-result
+overflow_mul-result c = omega (arith, blocks-top _ (counts c.before.before.before.before))
 
-mul-result-2 : tie.Need-overflow_mul-result-2
-mul-result-2 c =
+overflow_mul-result-2 : tie.Need-overflow_mul-result-2
+overflow_mul-result-2 c =
     let s = c.before.before.before.before in
     omega (arith, slots_top _ (sides s) (counts s))
 
-div-result : tie.Need-nonzero_div-result
-div-result c =
+nonzero_div-result : tie.Need-nonzero_div-result
+nonzero_div-result c =
     let s = c.before.before.before.before in
     omega (arith, c.band_bytes_of_sides-t.ensures, band-some _ (sides s))
 
@@ -50,11 +50,11 @@ pub image_fits_spec : {M : Type 1} → statement M
 image_fits_spec =
     tie.close
     (tie.spec
-    band-bytes-of-sides-requires
-    cast-across
-    cast-down
-    cast-bands
-    mul-result
-    mul-result-2
-    div-result
+    band_bytes_of_sides-t-requires
+    overflow_cast-across
+    overflow_cast-down
+    overflow_cast-bands
+    overflow_mul-result
+    overflow_mul-result-2
+    nonzero_div-result
     returns)

@@ -9,26 +9,26 @@ use Rattle.common.proofs.Tests.{every-last}
 use Rattle.grid.proofs.Grid.sides_fit.Statement.{statement}
 use Rattle.grid.proofs.Grid.sides_fit.Tie as tie
 
-returns : tie.Need-returns-then-not-within
+returns-then-not-within : tie.Need-returns-then-not-within
 unfolding q1 every
-returns c = simp (no c.within.ensures c.if-not-within.true)
+returns-then-not-within c = simp (no c.within.ensures c.if-not-within.true)
 
-returns-2 : tie.Need-returns-then-not-within-2
+returns-then-not-within-2 : tie.Need-returns-then-not-within-2
 unfolding q1 every
-returns-2 c = simp (yes c.within.ensures c.if-not-within.false, no c.within-2.ensures c.if-not-within-2.true)
+returns-then-not-within-2 c = simp (yes c.within.ensures c.if-not-within.false, no c.within-2.ensures c.if-not-within-2.true)
 
-returns-3 : tie.Need-returns-then-not-block_side_fits
+returns-then-not-block_side_fits : tie.Need-returns-then-not-block_side_fits
 unfolding q1 every
-returns-3 c =
+returns-then-not-block_side_fits c =
     simp (
       yes c.within.ensures c.if-not-within.false,
       yes c.within-2.ensures c.if-not-within-2.false,
       no c.block_side_fits.ensures c.if-not-block_side_fits.true,
     )
 
-returns-4 : tie.Need-returns-then-not-block_side_fits-2
+returns-then-not-block_side_fits-2 : tie.Need-returns-then-not-block_side_fits-2
 unfolding q1 every
-returns-4 c =
+returns-then-not-block_side_fits-2 c =
     let third = c.before.before in
     let second = third.before.before in
     let first = second.before.before in
@@ -39,9 +39,9 @@ returns-4 c =
       no c.block_side_fits-2.ensures c.if-not-block_side_fits-2.true,
     )
 
-returns-5 : tie.Need-returns
+returns : tie.Need-returns
 unfolding q1 every
-returns-5 c =
+returns c =
     let third = c.before.before.before in
     let second = third.before.before in
     let first = second.before.before in
@@ -56,5 +56,5 @@ returns-5 c =
 pub sides_fit_spec : {M : Type 1} → statement M
 sides_fit_spec =
     tie.close
-    (tie.spec (λ c κs. search rules) returns (λ c κs. search rules) returns-2 (λ c κs. search rules) returns-3
-    (λ c κs. search rules) returns-4 (λ c κs. search rules) returns-5)
+    (tie.spec (λ c κs. search rules) returns-then-not-within (λ c κs. search rules) returns-then-not-within-2 (λ c κs. search rules) returns-then-not-block_side_fits
+    (λ c κs. search rules) returns-then-not-block_side_fits-2 (λ c κs. search rules) returns)

@@ -7,17 +7,17 @@ use Rattle.grid.proofs.Accepted.{facts, block-end-le}
 use Rattle.grid.proofs.Grid.whole_block.Statement.{statement}
 use Rattle.grid.proofs.Grid.whole_block.Tie as tie
 
-bands-apart-requires : tie.Need-bands_apart-apart-requires
-bands-apart-requires c κs = search rules
+bands_apart-apart-requires : tie.Need-bands_apart-apart-requires
+bands_apart-apart-requires c κs = search rules
 
-block-bytes-requires : tie.Need-block_bytes-size-requires
-block-bytes-requires c κs = search rules
+block_bytes-size-requires : tie.Need-block_bytes-size-requires
+block_bytes-size-requires c κs = search rules
 
-block-index-requires : tie.Need-block_index-requires
-block-index-requires c κs = search rules
+block_index-requires : tie.Need-block_index-requires
+block_index-requires c κs = search rules
 
-mul-pick : tie.Need-overflow_mul-block_index
-mul-pick c =
+overflow_mul-block_index : tie.Need-overflow_mul-block_index
+overflow_mul-block_index c =
     let s = c.before.before.before in
     rw (c.block_index.ensures, c.block_bytes-size.ensures)
     (omega (arith, block-end-le _ _ _ s.requires.1, (facts _ s.requires.0).image-le))
@@ -38,10 +38,10 @@ pub whole_block_spec : {M : Type 1} → statement M
 whole_block_spec =
     tie.close
     (tie.spec
-    bands-apart-requires
-    block-bytes-requires
-    block-index-requires
-    mul-pick
+    bands_apart-apart-requires
+    block_bytes-size-requires
+    block_index-requires
+    overflow_mul-block_index
     pick-requires
     pick-requires-2
     returns)

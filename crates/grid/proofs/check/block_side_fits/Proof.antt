@@ -11,13 +11,13 @@ use Rattle.grid.proofs.check.block_side_fits.Tie as tie
 within-requires : tie.Need-within-requires
 within-requires c κs = search rules
 
-returns : tie.Need-returns-then-within
+returns-then-within : tie.Need-returns-then-within
 unfolding block_side some
-returns c = simp (sym c.within.ensures ∙ c.if-within.true)
+returns-then-within c = simp (sym c.within.ensures ∙ c.if-within.true)
 
-returns-2 : tie.Need-returns
+returns : tie.Need-returns
 unfolding block_side some
-returns-2 c = simp (sym c.within.ensures ∙ c.if-within.false) (some-last _)
+returns c = simp (sym c.within.ensures ∙ c.if-within.false) (some-last _)
 
 pub block_side_fits_spec : {M : Type 1} → statement M
-block_side_fits_spec = tie.close (tie.spec within-requires returns returns-2)
+block_side_fits_spec = tie.close (tie.spec within-requires returns-then-within returns)

@@ -30,20 +30,20 @@ at_n : (n : ℕ) → n < 65 → get_or table n 0 ≡ width_bytes n
 unfolding table right width_bytes width_taken pick some within every
 at_n n h = eqb→eq (get_or table n 0) (width_bytes n) (at right table tt n h)
 
-array-read-result : tie.Need-bounds-i
-array-read-result c = search rules
+bounds-i : tie.Need-bounds-i
+bounds-i c = search rules
 
-cast-result : tie.Need-overflow_cast-result
+overflow_cast-result : tie.Need-overflow_cast-result
 unfolding table small
-cast-result c = omega (arith, ltb→lt (get_or table c.args.nbpp 0) 9 (at small table tt c.args.nbpp c.if-nbpp-lt65.true))
+overflow_cast-result c = omega (arith, ltb→lt (get_or table c.args.nbpp 0) 9 (at small table tt c.args.nbpp c.if-nbpp-lt65.true))
 
-returns : tie.Need-returns-then-nbpp-lt65
+returns-then-nbpp-lt65 : tie.Need-returns-then-nbpp-lt65
 unfolding table
-returns c = at_n c.args.nbpp c.if-nbpp-lt65.true
+returns-then-nbpp-lt65 c = at_n c.args.nbpp c.if-nbpp-lt65.true
 
-returns-2 : tie.Need-returns-else-nbpp-lt65
+returns-else-nbpp-lt65 : tie.Need-returns-else-nbpp-lt65
 unfolding width_bytes
-returns-2 c = sym (pick_no _ 0 (past c.args.nbpp c.if-nbpp-lt65.false))
+returns-else-nbpp-lt65 c = sym (pick_no _ 0 (past c.args.nbpp c.if-nbpp-lt65.false))
 
 pub width_bytes_spec : {M : Type 1} → statement M
-width_bytes_spec = tie.close (tie.spec array-read-result cast-result returns returns-2)
+width_bytes_spec = tie.close (tie.spec bounds-i overflow_cast-result returns-then-nbpp-lt65 returns-else-nbpp-lt65)

@@ -63,69 +63,69 @@ room c =
     c.product_fits-2.ensures
     ∙ ap (λ (x : ℕ). leb x a.room) (ap (λ (n : ℕ). n * (a.shape.rows * a.shape.columns * a.shape.size)) c.band_count-count.ensures ∙ omega arith)
 
-returns : tie.Need-returns-then-size-lt1
+returns-then-size-lt1 : tie.Need-returns-then-size-lt1
 unfolding reorder_number within every
-returns c = simp (lt-leb 1 c.args.shape.size (omega arith))
+returns-then-size-lt1 c = simp (lt-leb 1 c.args.shape.size (omega arith))
 
-returns-2 : tie.Need-returns-then-size-gt8
+returns-then-size-gt8 : tie.Need-returns-then-size-gt8
 unfolding reorder_number within every
-returns-2 c = let s : ℕ = c.args.shape.size in simp (le-leb 1 s (omega arith), lt-leb s 8 (omega arith))
+returns-then-size-gt8 c = let s : ℕ = c.args.shape.size in simp (le-leb 1 s (omega arith), lt-leb s 8 (omega arith))
 
-cast-pixels : tie.Need-overflow_cast-pixels
-cast-pixels c = search rules
+overflow_cast-pixels : tie.Need-overflow_cast-pixels
+overflow_cast-pixels c = search rules
 
-cast-pixels-2 : tie.Need-overflow_cast-pixels-2
-cast-pixels-2 c = search rules
+overflow_cast-pixels-2 : tie.Need-overflow_cast-pixels-2
+overflow_cast-pixels-2 c = search rules
 
-mul-pixels : tie.Need-overflow_mul-pixels
-mul-pixels c =
+overflow_mul-pixels : tie.Need-overflow_mul-pixels
+overflow_mul-pixels c =
     let p = c.args.shape in
     omega (arith, prod_le p.rows p.columns 4_294_967_295 4_294_967_295 (omega arith) (omega arith))
 
-cast-pixel : tie.Need-overflow_cast-pixel
-cast-pixel c = search rules
+overflow_cast-pixel : tie.Need-overflow_cast-pixel
+overflow_cast-pixel c = search rules
 
-mul-pixel : tie.Need-overflow_mul-pixel
-mul-pixel c =
+overflow_mul-pixel : tie.Need-overflow_mul-pixel
+overflow_mul-pixel c =
     let p = c.args.shape in
     omega (arith, prod_le p.bands p.size 4_294_967_295 8 (omega arith) (omega arith))
 
-product-fits-requires : tie.Need-product_fits-requires
-product-fits-requires c κs = search rules
+product_fits-requires : tie.Need-product_fits-requires
+product_fits-requires c κs = search rules
 
-returns-3 : tie.Need-returns-then-not-product_fits
+returns-then-not-product_fits : tie.Need-returns-then-not-product_fits
 unfolding reorder_number
-returns-3 c =
+returns-then-not-product_fits c =
     let d = c.before.before.before.before.before in
     let p = d.args.shape in
     simp (past_2 d, rw (in_order p) at (no c.product_fits.ensures c.if-not-product_fits.true))
 
-mul-if4 : tie.Need-overflow_mul-pixels-2
-mul-if4 c = omega (arith, leb-true (total (start c).args.shape) 4_294_967_294 (past_4 c).1)
+overflow_mul-pixels-2 : tie.Need-overflow_mul-pixels-2
+overflow_mul-pixels-2 c = omega (arith, leb-true (total (start c).args.shape) 4_294_967_294 (past_4 c).1)
 
-returns-4 : tie.Need-returns-then-data-pixels
+returns-then-data-pixels : tie.Need-returns-then-data-pixels
 unfolding reorder_number
-returns-4 c =
+returns-then-data-pixels c =
     let a = (start c.before).args in
     let h = past_4 c.before in
     simp (h.0, h.1, ne_eqb a.«data» (total a.shape) (λ e. c.if-data-pixels.true (e ∙ sym (in_order a.shape))))
 
-bands-below-requires : tie.Need-bands_below-requires
-bands-below-requires c κs = search rules
+bands_below-requires : tie.Need-bands_below-requires
+bands_below-requires c κs = search rules
 
-returns-5 : tie.Need-returns-then-not-bands_below
+returns-then-not-bands_below : tie.Need-returns-then-not-bands_below
 unfolding reorder_number
-returns-5 c =
+returns-then-not-bands_below c =
     let b = c.before.before in
     let h = past_4 b.before in
     simp (h.0, h.1, past_14 b, no c.bands_below.ensures c.if-not-bands_below.true)
 
-band-count-requires : tie.Need-band_count-count-requires
-band-count-requires c κs = search rules
+band_count-count-requires : tie.Need-band_count-count-requires
+band_count-count-requires c κs = search rules
 
-returns-6 : tie.Need-returns-then-count-eq0
+returns-then-count-eq0 : tie.Need-returns-then-count-eq0
 unfolding reorder_number q9
-returns-6 c =
+returns-then-count-eq0 c =
     let d = c.before.before in
     let b = d.before.before in
     let h = past_4 b.before in
@@ -134,8 +134,8 @@ returns-6 c =
     let e : n ≡ 0 = sym c.band_count-count.ensures ∙ c.if-count-eq0.true in
     simp (h.0, h.1, past_14 b, past_8 d, le-leb (n * a.shape.rows * a.shape.columns * a.shape.size) a.room (rw e (omega arith)))
 
-mul-product-fits : tie.Need-overflow_mul-pixels-3
-mul-product-fits c =
+overflow_mul-pixels-3 : tie.Need-overflow_mul-pixels-3
+overflow_mul-pixels-3 c =
     let d = c.before.before in
     let b = d.before.before in
     let a = (entry d).args in
@@ -143,20 +143,20 @@ mul-product-fits c =
     let n : 0 < p.bands = has_bands p.bands (bands_of a.all a.list.now) (past_8 d) (omega (arith, c.band_count-count.ensures)) in
     omega (arith, times-le p.bands (p.rows * p.columns * p.size) n, leb-true (total p) 4_294_967_294 (past_4 b.before).1)
 
-product-fits-requires-2 : tie.Need-product_fits-requires-2
-product-fits-requires-2 c κs = search rules
+product_fits-requires-2 : tie.Need-product_fits-requires-2
+product_fits-requires-2 c κs = search rules
 
-returns-7 : tie.Need-returns-then-not-product_fits-2
+returns-then-not-product_fits-2 : tie.Need-returns-then-not-product_fits-2
 unfolding reorder_number q9
-returns-7 c =
+returns-then-not-product_fits-2 c =
     let d = c.before.before.before.before in
     let b = d.before.before in
     let h = past_4 b.before in
     simp (h.0, h.1, past_14 b, past_8 d, no (room c.before) c.if-not-product_fits-2.true)
 
-returns-8 : tie.Need-returns
+returns : tie.Need-returns
 unfolding reorder_number q9
-returns-8 c =
+returns c =
     let d = c.before.before.before.before in
     let b = d.before.before in
     let h = past_4 b.before in
@@ -166,22 +166,22 @@ pub reorder_number_spec : {M : Type 1} → statement M
 reorder_number_spec =
     tie.close
     (tie.spec
-    returns
-    returns-2
-    cast-pixels
-    cast-pixels-2
-    mul-pixels
-    cast-pixel
-    mul-pixel
-    product-fits-requires
-    returns-3
-    mul-if4
-    returns-4
-    bands-below-requires
-    returns-5
-    band-count-requires
-    returns-6
-    mul-product-fits
-    product-fits-requires-2
-    returns-7
-    returns-8)
+    returns-then-size-lt1
+    returns-then-size-gt8
+    overflow_cast-pixels
+    overflow_cast-pixels-2
+    overflow_mul-pixels
+    overflow_cast-pixel
+    overflow_mul-pixel
+    product_fits-requires
+    returns-then-not-product_fits
+    overflow_mul-pixels-2
+    returns-then-data-pixels
+    bands_below-requires
+    returns-then-not-bands_below
+    band_count-count-requires
+    returns-then-count-eq0
+    overflow_mul-pixels-3
+    product_fits-requires-2
+    returns-then-not-product_fits-2
+    returns)

@@ -19,34 +19,34 @@ entry c = c.before.before.before.before.before
 some : (c : tie.Else-is_empty) → let p = (entry c).args.shape in Positive p.bands p.rows p.columns
 some c = not_empty _ _ _ (sym c.is_empty.ensures ∙ c.if-is_empty.false)
 
-cast-is-empty : tie.Need-overflow_cast-shape
-cast-is-empty c = search rules
+overflow_cast-shape : tie.Need-overflow_cast-shape
+overflow_cast-shape c = search rules
 
-is-empty-requires : tie.Need-is_empty-requires
-is-empty-requires c κs = search rules
+is_empty-requires : tie.Need-is_empty-requires
+is_empty-requires c κs = search rules
 
-returns : tie.Need-returns-then-is_empty
+returns-then-is_empty : tie.Need-returns-then-is_empty
 unfolding band_count pick
-returns c =
+returns-then-is_empty c =
     let a = c.args in
     no-samples _ _ _ a.out.now (eqb-true _ _ (sym c.is_empty.ensures ∙ c.if-is_empty.true))
 
-order-layout-requires : tie.Need-order_layout-layout-requires
-order-layout-requires c κs = let q = accepted _ _ _ _ _ _ _ (entry c).requires in ((some c).0, q.size-high, q.small)
+order_layout-layout-requires : tie.Need-order_layout-layout-requires
+order_layout-layout-requires c κs = let q = accepted _ _ _ _ _ _ _ (entry c).requires in ((some c).0, q.size-high, q.small)
 
-store-block-requires : tie.Need-store_block-requires
-store-block-requires c κs =
+store_block-requires : tie.Need-store_block-requires
+store_block-requires c κs =
     let z = c.before.before in
     let q = accepted _ _ _ _ _ _ _ (entry z).requires in
     let h = some z in
     rw c.order_layout-layout.ensures (order_writable _ _ _ _ _ _ _ h.0 h.1 h.2 q (all_room q))
 
-same_length : tie.Need-shape_of-out
-same_length c = search rules
+shape_of-out : tie.Need-shape_of-out
+shape_of-out c = search rules
 
-returns-2 : tie.Need-returns
+returns : tie.Need-returns
 unfolding band_count pick
-returns-2 c =
+returns c =
     let z = c.before.before.before.before.before in
     let a = (entry z).args in
     let q = accepted _ _ _ _ _ _ _ (entry z).requires in
@@ -59,10 +59,10 @@ pub from_planes_spec : {M : Type 1} → statement M
 from_planes_spec =
     tie.close
     (tie.spec
-    cast-is-empty
-    is-empty-requires
-    returns
-    order-layout-requires
-    store-block-requires
-    same_length
-    returns-2)
+    overflow_cast-shape
+    is_empty-requires
+    returns-then-is_empty
+    order_layout-layout-requires
+    store_block-requires
+    shape_of-out
+    returns)

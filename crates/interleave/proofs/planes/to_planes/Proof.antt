@@ -23,32 +23,32 @@ some c =
     let h = not_empty c.band_count.result p.rows p.columns (sym c.is_empty.ensures ∙ c.if-is_empty.false) in
     (rw c.band_count.ensures at h.0, h.1, h.2)
 
-band-count-requires : tie.Need-band_count-requires
-band-count-requires c κs = search rules
+band_count-requires : tie.Need-band_count-requires
+band_count-requires c κs = search rules
 
-is-empty-requires : tie.Need-is_empty-requires
-is-empty-requires c κs = search rules
+is_empty-requires : tie.Need-is_empty-requires
+is_empty-requires c κs = search rules
 
-returns : tie.Need-returns-then-is_empty
-returns c =
+returns-then-is_empty : tie.Need-returns-then-is_empty
+returns-then-is_empty c =
     let a = c.args in
     no-samples _ _ _ a.out.now (rw (← c.band_count.ensures) (eqb-true _ _ (sym c.is_empty.ensures ∙ c.if-is_empty.true)))
 
-order-layout-requires : tie.Need-order_layout-layout-requires
-order-layout-requires c κs = let q = accepted _ _ _ _ _ _ _ (entry c).requires in (has_bands _ _ q.listed (some c).0, q.size-high, q.small)
+order_layout-layout-requires : tie.Need-order_layout-layout-requires
+order_layout-layout-requires c κs = let q = accepted _ _ _ _ _ _ _ (entry c).requires in (has_bands _ _ q.listed (some c).0, q.size-high, q.small)
 
-read-planes-requires : tie.Need-read_planes-requires
-read-planes-requires c κs =
+read_planes-requires : tie.Need-read_planes-requires
+read_planes-requires c κs =
     let z = c.before.before in
     let q = accepted _ _ _ _ _ _ _ (entry z).requires in
     let h = some z in
     rw c.order_layout-layout.ensures (order_readable _ _ _ _ _ _ _ _ (has_bands _ _ q.listed h.0) h.1 h.2 q)
 
-same_length : tie.Need-shape_of-out
-same_length c = search rules
+shape_of-out : tie.Need-shape_of-out
+shape_of-out c = search rules
 
-returns-2 : tie.Need-returns
-returns-2 c =
+returns : tie.Need-returns
+returns c =
     let z = c.before.before.before.before.before in
     let a = (entry z).args in
     rw c.order_layout-layout.ensures at c.read_planes.ensures
@@ -58,10 +58,10 @@ pub to_planes_spec : {M : Type 1} → statement M
 to_planes_spec =
     tie.close
     (tie.spec
-    band-count-requires
-    is-empty-requires
-    returns
-    order-layout-requires
-    read-planes-requires
-    same_length
-    returns-2)
+    band_count-requires
+    is_empty-requires
+    returns-then-is_empty
+    order_layout-layout-requires
+    read_planes-requires
+    shape_of-out
+    returns)

@@ -21,17 +21,17 @@ other R l h = refl
 other S l h = refl
 other P l h = absurd (⊎_elim (λ e. omega arith) (λ h. ⊎_elim (λ e. omega arith) (λ e. omega arith) h) h)
 
-enum_told : tie.Need-enum_told-1
-enum_told c = search rules
+enum_told-1 : tie.Need-enum_told-1
+enum_told-1 c = search rules
 
-cast-result : tie.Need-overflow_cast-result
-cast-result c = search rules
+overflow_cast-result : tie.Need-overflow_cast-result
+overflow_cast-result c = search rules
 
-returns : tie.Need-returns-in-P
-returns c = search rules
+returns-in-P : tie.Need-returns-in-P
+returns-in-P c = search rules
 
-returns-2 : tie.Need-returns-in_default
-returns-2 c = other c.args.self.mode c.args.self c.in_default.in_default-own.keys2
+returns-in_default : tie.Need-returns-in_default
+returns-in_default c = other c.args.self.mode c.args.self c.in_default.in_default-own.keys2
 
 pub column_steps_spec : {M : Type 1} → statement M
-column_steps_spec = tie.close (tie.spec enum_told cast-result returns returns-2)
+column_steps_spec = tie.close (tie.spec enum_told-1 overflow_cast-result returns-in-P returns-in_default)

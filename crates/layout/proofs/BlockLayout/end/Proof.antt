@@ -19,55 +19,55 @@ packed : (l : BlockLayout) → (l.nbpp % 8 ≡ 0 → ⊥) → l.first + (l.bands
 unfolding block_end
 packed l e = rw (ne_eqb (l.nbpp % 8) 0 e)
 
-cast-last : tie.Need-overflow_cast-last
-cast-last c = search rules
+overflow_cast-last : tie.Need-overflow_cast-last
+overflow_cast-last c = search rules
 
-sub-last : tie.Need-overflow_sub-last
-sub-last c = search rules
+overflow_sub-last : tie.Need-overflow_sub-last
+overflow_sub-last c = search rules
 
-sub-r : tie.Need-overflow_sub-r
-sub-r c = search rules
+overflow_sub-r : tie.Need-overflow_sub-r
+overflow_sub-r c = search rules
 
-sub-c : tie.Need-overflow_sub-c
-sub-c c = search rules
+overflow_sub-c : tie.Need-overflow_sub-c
+overflow_sub-c c = search rules
 
-sample-place-requires : tie.Need-sample_place-requires
-sample-place-requires c κs = search rules
+sample_place-requires : tie.Need-sample_place-requires
+sample_place-requires c κs = search rules
 
-sample-bytes-requires : tie.Need-sample_bytes-requires
-sample-bytes-requires c κs = search rules
+sample_bytes-requires : tie.Need-sample_bytes-requires
+sample_bytes-requires c κs = search rules
 
-add-result : tie.Need-overflow_add-result
-add-result c = search rules
+overflow_add-result : tie.Need-overflow_add-result
+overflow_add-result c = search rules
 
-mul-result : tie.Need-overflow_mul-result
-mul-result c = omega (arith, (sizes _ c.requires).last-le)
+overflow_mul-result : tie.Need-overflow_mul-result
+overflow_mul-result c = omega (arith, (sizes _ c.requires).last-le)
 
-add-result-2 : tie.Need-overflow_add-result-else-self-eq0
-add-result-2 c = omega (arith, (sizes _ c.requires).last-le)
+overflow_add-result-else-self-eq0 : tie.Need-overflow_add-result-else-self-eq0
+overflow_add-result-else-self-eq0 c = omega (arith, (sizes _ c.requires).last-le)
 
-add-result-3 : tie.Need-overflow_add-result-else-self-eq0-2
-add-result-3 c = omega (arith, (sizes _ c.requires).last-le)
+overflow_add-result-else-self-eq0-2 : tie.Need-overflow_add-result-else-self-eq0-2
+overflow_add-result-else-self-eq0-2 c = omega (arith, (sizes _ c.requires).last-le)
 
-returns : tie.Need-returns-then-self-eq0
-returns c = rw (c.sample_place.ensures, c.sample_bytes.ensures) (whole _ c.if-self-eq0.true)
+returns-then-self-eq0 : tie.Need-returns-then-self-eq0
+returns-then-self-eq0 c = rw (c.sample_place.ensures, c.sample_bytes.ensures) (whole _ c.if-self-eq0.true)
 
-returns-2 : tie.Need-returns-else-self-eq0
-returns-2 c = packed _ c.if-self-eq0.false
+returns-else-self-eq0 : tie.Need-returns-else-self-eq0
+returns-else-self-eq0 c = packed _ c.if-self-eq0.false
 
 pub end_spec : {M : Type 1} → statement M
 end_spec =
     tie.close
     (tie.spec
-    cast-last
-    sub-last
-    sub-r
-    sub-c
-    sample-place-requires
-    sample-bytes-requires
-    add-result
-    mul-result
-    add-result-2
-    add-result-3
-    returns
-    returns-2)
+    overflow_cast-last
+    overflow_sub-last
+    overflow_sub-r
+    overflow_sub-c
+    sample_place-requires
+    sample_bytes-requires
+    overflow_add-result
+    overflow_mul-result
+    overflow_add-result-else-self-eq0
+    overflow_add-result-else-self-eq0-2
+    returns-then-self-eq0
+    returns-else-self-eq0)

@@ -30,51 +30,51 @@ unfolding some
 by_mode w true e f = rw e (sym f)
 by_mode w false e f = rw e (sym f)
 
-cast-bits : tie.Need-overflow_cast-bits
-cast-bits c = search rules
+overflow_cast-bits : tie.Need-overflow_cast-bits
+overflow_cast-bits c = search rules
 
-mul-if1 : tie.Need-overflow_mul-self
-mul-if1 c = omega (arith, (sizes _ c.requires).apart-le)
+overflow_mul-self : tie.Need-overflow_mul-self
+overflow_mul-self c = omega (arith, (sizes _ c.requires).apart-le)
 
-mul-if1-2 : tie.Need-overflow_mul-self-2
-mul-if1-2 c = omega (arith, (sizes _ c.requires).run_le)
+overflow_mul-self-2 : tie.Need-overflow_mul-self-2
+overflow_mul-self-2 c = omega (arith, (sizes _ c.requires).run_le)
 
-mul-if1-3 : tie.Need-overflow_mul-self-3
-mul-if1-3 c = omega (arith, (sizes _ c.requires).run_bits)
+overflow_mul-self-3 : tie.Need-overflow_mul-self-3
+overflow_mul-self-3 c = omega (arith, (sizes _ c.requires).run_bits)
 
-returns : tie.Need-returns-then-self-bits
+returns-then-self-bits : tie.Need-returns-then-self-bits
 unfolding has_strides some
-returns c = rw (eq-eqb _ _ c.if-self-bits.true)
+returns-then-self-bits c = rw (eq-eqb _ _ c.if-self-bits.true)
 
-enum_told : tie.Need-enum_told-1
-enum_told c = search rules
+enum_told-1 : tie.Need-enum_told-1
+enum_told-1 c = search rules
 
-enum-told-2 : tie.Need-enum_told-in-R
-enum-told-2 c = search rules
+enum_told-in-R : tie.Need-enum_told-in-R
+enum_told-in-R c = search rules
 
-returns-2 : tie.Need-returns-in-P
+returns-in-P : tie.Need-returns-in-P
 unfolding has_strides
-returns-2 c = by_mode _ _ (ne_eqb _ _ c.if-self-bits.false) (ap own_runs c.in-P.is)
+returns-in-P c = by_mode _ _ (ne_eqb _ _ c.if-self-bits.false) (ap own_runs c.in-P.is)
 
-returns-3 : tie.Need-returns-in-R
+returns-in-R : tie.Need-returns-in-R
 unfolding has_strides
-returns-3 c = by_mode _ _ (ne_eqb _ _ c.if-self-bits.false) (ap own_runs c.in-R.is)
+returns-in-R c = by_mode _ _ (ne_eqb _ _ c.if-self-bits.false) (ap own_runs c.in-R.is)
 
-returns-4 : tie.Need-returns-in_default
+returns-in_default : tie.Need-returns-in_default
 unfolding has_strides
-returns-4 c = by_mode _ _ (ne_eqb _ _ c.if-self-bits.false) (even c.args.self.mode c.in_default.in_default-own.keys3)
+returns-in_default c = by_mode _ _ (ne_eqb _ _ c.if-self-bits.false) (even c.args.self.mode c.in_default.in_default-own.keys3)
 
 pub has_strides_spec : {M : Type 1} → statement M
 has_strides_spec =
     tie.close
     (tie.spec
-    cast-bits
-    mul-if1
-    mul-if1-2
-    mul-if1-3
-    returns
-    enum_told
-    enum-told-2
-    returns-2
-    returns-3
-    returns-4)
+    overflow_cast-bits
+    overflow_mul-self
+    overflow_mul-self-2
+    overflow_mul-self-3
+    returns-then-self-bits
+    enum_told-1
+    enum_told-in-R
+    returns-in-P
+    returns-in-R
+    returns-in_default)

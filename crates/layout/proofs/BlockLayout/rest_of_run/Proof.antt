@@ -18,32 +18,32 @@ some c =
     let s = c.before.before.before in
     rw c.column_steps-steps.ensures (steps_pos s.args.self.mode s.args.self s.requires.0.some-bands)
 
-mul-samples : tie.Need-overflow_mul-samples
-mul-samples c = omega (arith, (sizes _ c.requires.0).run_le)
+overflow_mul-samples : tie.Need-overflow_mul-samples
+overflow_mul-samples c = omega (arith, (sizes _ c.requires.0).run_le)
 
-sample-ordinal-requires : tie.Need-sample_ordinal-requires
-sample-ordinal-requires c κs = let s = c.before in let k = known s in ((s.requires.1.in_b, k.r_lt, k.c_lt), omega (arith, (sizes _ s.requires.0).block-le))
+sample_ordinal-requires : tie.Need-sample_ordinal-requires
+sample_ordinal-requires c κs = let s = c.before in let k = known s in ((s.requires.1.in_b, k.r_lt, k.c_lt), omega (arith, (sizes _ s.requires.0).block-le))
 
-rem-rest : tie.Need-nonzero_rem-rest
-rem-rest c = (known c.before.before).size-pos
+nonzero_rem-rest : tie.Need-nonzero_rem-rest
+nonzero_rem-rest c = (known c.before.before).size-pos
 
-sub-rest : tie.Need-overflow_sub-rest
-sub-rest c = le_of_lt (mod-lt c.sample_ordinal.result (known c.before.before).size-pos)
+overflow_sub-rest : tie.Need-overflow_sub-rest
+overflow_sub-rest c = le_of_lt (mod-lt c.sample_ordinal.result (known c.before.before).size-pos)
 
-column-steps-requires : tie.Need-column_steps-steps-requires
-column-steps-requires c κs = search rules
+column_steps-steps-requires : tie.Need-column_steps-steps-requires
+column_steps-steps-requires c κs = search rules
 
-sub-result : tie.Need-overflow_sub-result
-sub-result c = some c
+overflow_sub-result : tie.Need-overflow_sub-result
+overflow_sub-result c = some c
 
-add-result : tie.Need-overflow_add-result
-add-result c =
+overflow_add-result : tie.Need-overflow_add-result
+overflow_add-result c =
     let s = c.before.before.before in
     rw c.column_steps-steps.ensures
     (omega (arith, (sizes _ s.requires.0).run_le, steps_le s.args.self.mode s.args.self s.requires.0.some-bands, (strides_fit _ s.requires.0).bands-le))
 
-div-result : tie.Need-nonzero_div-result
-div-result c = some c
+nonzero_div-result : tie.Need-nonzero_div-result
+nonzero_div-result c = some c
 
 returns : tie.Need-returns
 unfolding rest_of_run
@@ -53,12 +53,12 @@ pub rest_of_run_spec : {M : Type 1} → statement M
 rest_of_run_spec =
     tie.close
     (tie.spec
-    mul-samples
-    sample-ordinal-requires
-    rem-rest
-    sub-rest
-    column-steps-requires
-    sub-result
-    add-result
-    div-result
+    overflow_mul-samples
+    sample_ordinal-requires
+    nonzero_rem-rest
+    overflow_sub-rest
+    column_steps-steps-requires
+    overflow_sub-result
+    overflow_add-result
+    nonzero_div-result
     returns)

@@ -25,8 +25,8 @@ other P n v h b r c t = absurd (⊎_elim (λ e. omega arith) (λ e. omega arith)
 other R n v h b r c t = absurd (⊎_elim (λ e. omega arith) (λ e. omega arith) t)
 
 -- a part of a number that fits, fits
-part-fits : (q p x n : ℕ) → 0 < p → q * p + x < n → q < n
-part-fits q p x n h l = omega (arith, mul-le-mul_left q h)
+part_fits : (q p x n : ℕ) → 0 < p → q * p + x < n → q < n
+part_fits q p x n h l = omega (arith, mul-le-mul_left q h)
 
 fits : (m : InterleaveMode) (s : tie.Start) → let a = s.args in ordinal m a.self.bands a.self.run_rows a.self.run_columns a.b a.r a.c < 2 ^ 64
 fits m s =
@@ -35,47 +35,47 @@ fits m s =
     (ordinal_lt m a.self.bands a.self.run_rows a.self.run_columns a.b a.r a.c s.requires.0.0 s.requires.0.1 s.requires.0.2)
     (omega (arith, s.requires.1))
 
-cast-bands : tie.Need-overflow_cast-bands
-cast-bands c = search rules
+overflow_cast-bands : tie.Need-overflow_cast-bands
+overflow_cast-bands c = search rules
 
-enum_told : tie.Need-enum_told-1
-enum_told c = search rules
+enum_told-1 : tie.Need-enum_told-1
+enum_told-1 c = search rules
 
-times-plus-requires : tie.Need-times_plus-requires
-times-plus-requires c κs =
+times_plus-requires : tie.Need-times_plus-requires
+times_plus-requires c κs =
     let s = c.before.before in
-    part-fits _ s.args.self.bands s.args.b _ (omega (arith, s.requires.0.0)) (fits P s)
+    part_fits _ s.args.self.bands s.args.b _ (omega (arith, s.requires.0.0)) (fits P s)
 
-times-plus-requires-2 : tie.Need-times_plus-requires-in-P
-times-plus-requires-2 c κs = rw c.times_plus.ensures (fits P c.before.before.before)
+times_plus-requires-in-P : tie.Need-times_plus-requires-in-P
+times_plus-requires-in-P c κs = rw c.times_plus.ensures (fits P c.before.before.before)
 
-enum-told-2 : tie.Need-enum_told-in-R
-enum-told-2 c = search rules
+enum_told-in-R : tie.Need-enum_told-in-R
+enum_told-in-R c = search rules
 
-times-plus-requires-3 : tie.Need-times_plus-requires-in-R
-times-plus-requires-3 c κs =
+times_plus-requires-in-R : tie.Need-times_plus-requires-in-R
+times_plus-requires-in-R c κs =
     let s = c.before.before in
-    part-fits _ s.args.self.run_columns s.args.c _ (omega (arith, s.requires.0.2)) (fits R s)
+    part_fits _ s.args.self.run_columns s.args.c _ (omega (arith, s.requires.0.2)) (fits R s)
 
-times-plus-requires-4 : tie.Need-times_plus-requires-in-R-2
-times-plus-requires-4 c κs = rw c.times_plus-in-R.ensures (fits R c.before.before.before)
+times_plus-requires-in-R-2 : tie.Need-times_plus-requires-in-R-2
+times_plus-requires-in-R-2 c κs = rw c.times_plus-in-R.ensures (fits R c.before.before.before)
 
-times-plus-requires-5 : tie.Need-times_plus-requires-in_default
-times-plus-requires-5 c κs =
+times_plus-requires-in_default : tie.Need-times_plus-requires-in_default
+times_plus-requires-in_default c κs =
     let s = c.before.before in
-    part-fits _ s.args.self.run_columns s.args.c _ (omega (arith, s.requires.0.2)) (fits B s)
+    part_fits _ s.args.self.run_columns s.args.c _ (omega (arith, s.requires.0.2)) (fits B s)
 
-times-plus-requires-6 : tie.Need-times_plus-requires-in_default-2
-times-plus-requires-6 c κs = rw c.times_plus-in_default.ensures (fits B c.before.before.before)
+times_plus-requires-in_default-2 : tie.Need-times_plus-requires-in_default-2
+times_plus-requires-in_default-2 c κs = rw c.times_plus-in_default.ensures (fits B c.before.before.before)
 
-returns : tie.Need-returns-in-P
-returns c = rw (c.times_plus-in-P.ensures, c.times_plus.ensures, c.in-P.is)
+returns-in-P : tie.Need-returns-in-P
+returns-in-P c = rw (c.times_plus-in-P.ensures, c.times_plus.ensures, c.in-P.is)
 
-returns-2 : tie.Need-returns-in-R
-returns-2 c = rw (c.times_plus-in-R-2.ensures, c.times_plus-in-R.ensures, c.in-R.is)
+returns-in-R : tie.Need-returns-in-R
+returns-in-R c = rw (c.times_plus-in-R-2.ensures, c.times_plus-in-R.ensures, c.in-R.is)
 
-returns-3 : tie.Need-returns-in_default
-returns-3 c =
+returns-in_default : tie.Need-returns-in_default
+returns-in_default c =
     let a = c.args in
     rw (c.times_plus-in_default-2.ensures, c.times_plus-in_default.ensures)
     (other a.self.mode a.self.bands a.self.run_rows a.self.run_columns a.b a.r a.c c.in_default.in_default-own.keys3)
@@ -84,15 +84,15 @@ pub sample_ordinal_spec : {M : Type 1} → statement M
 sample_ordinal_spec =
     tie.close
     (tie.spec
-    cast-bands
-    enum_told
-    times-plus-requires
-    times-plus-requires-2
-    enum-told-2
-    times-plus-requires-3
-    times-plus-requires-4
-    times-plus-requires-5
-    times-plus-requires-6
-    returns
-    returns-2
-    returns-3)
+    overflow_cast-bands
+    enum_told-1
+    times_plus-requires
+    times_plus-requires-in-P
+    enum_told-in-R
+    times_plus-requires-in-R
+    times_plus-requires-in-R-2
+    times_plus-requires-in_default
+    times_plus-requires-in_default-2
+    returns-in-P
+    returns-in-R
+    returns-in_default)

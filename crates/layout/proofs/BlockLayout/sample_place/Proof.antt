@@ -30,35 +30,35 @@ is l b r c = refl
 known : (s : tie.Start) → RunPlace s.args.self s.args.b s.args.r s.args.c
 known s = run_place s.args.self s.requires.0 s.args.b s.args.r s.args.c s.requires.1
 
-sample-ordinal-requires : tie.Need-sample_ordinal-n-requires
-sample-ordinal-requires c κs = let k = known c in ((c.requires.1.in_b, k.r_lt, k.c_lt), omega (arith, (sizes _ c.requires.0).block-le))
+sample_ordinal-n-requires : tie.Need-sample_ordinal-n-requires
+sample_ordinal-n-requires c κs = let k = known c in ((c.requires.1.in_b, k.r_lt, k.c_lt), omega (arith, (sizes _ c.requires.0).block-le))
 
-mul-size : tie.Need-overflow_mul-size
-mul-size c = omega (arith, (sizes _ c.requires.0).run_le)
+overflow_mul-size : tie.Need-overflow_mul-size
+overflow_mul-size c = omega (arith, (sizes _ c.requires.0).run_le)
 
-cast-bits : tie.Need-overflow_cast-bits
-cast-bits c = search rules
+overflow_cast-bits : tie.Need-overflow_cast-bits
+overflow_cast-bits c = search rules
 
-div-byte : tie.Need-nonzero_div-byte
-div-byte c = (known c.before.before.before).size-pos
+nonzero_div-byte : tie.Need-nonzero_div-byte
+nonzero_div-byte c = (known c.before.before.before).size-pos
 
-mul-byte : tie.Need-overflow_mul-byte
-mul-byte c = omega (arith, fits c.before.before.before)
+overflow_mul-byte : tie.Need-overflow_mul-byte
+overflow_mul-byte c = omega (arith, fits c.before.before.before)
 
-add-byte : tie.Need-overflow_add-byte
-add-byte c = omega (arith, fits c.before.before.before.before)
+overflow_add-byte : tie.Need-overflow_add-byte
+overflow_add-byte c = omega (arith, fits c.before.before.before.before)
 
-mul-result : tie.Need-overflow_mul-result
-mul-result c = omega (arith, fits c.before.before.before.before)
+overflow_mul-result : tie.Need-overflow_mul-result
+overflow_mul-result c = omega (arith, fits c.before.before.before.before)
 
-rem-result : tie.Need-nonzero_rem-result
-rem-result c = (known c.before.before.before.before.before).size-pos
+nonzero_rem-result : tie.Need-nonzero_rem-result
+nonzero_rem-result c = (known c.before.before.before.before.before).size-pos
 
-mul-result-2 : tie.Need-overflow_mul-result-2
-mul-result-2 c = omega (arith, fits c.before.before.before.before)
+overflow_mul-result-2 : tie.Need-overflow_mul-result-2
+overflow_mul-result-2 c = omega (arith, fits c.before.before.before.before)
 
-add-result : tie.Need-overflow_add-result
-add-result c = omega (arith, fits c.before.before.before.before)
+overflow_add-result : tie.Need-overflow_add-result
+overflow_add-result c = omega (arith, fits c.before.before.before.before)
 
 returns : tie.Need-returns
 returns c =
@@ -69,14 +69,14 @@ pub sample_place_spec : {M : Type 1} → statement M
 sample_place_spec =
     tie.close
     (tie.spec
-    sample-ordinal-requires
-    mul-size
-    cast-bits
-    div-byte
-    mul-byte
-    add-byte
-    mul-result
-    rem-result
-    mul-result-2
-    add-result
+    sample_ordinal-n-requires
+    overflow_mul-size
+    overflow_cast-bits
+    nonzero_div-byte
+    overflow_mul-byte
+    overflow_add-byte
+    overflow_mul-result
+    nonzero_rem-result
+    overflow_mul-result-2
+    overflow_add-result
     returns)

@@ -10,75 +10,75 @@ use native.Mathlib.Omega.{arith}
 known : (s : tie.Start) → StridesFit s.args.self
 known s = strides_fit s.args.self s.requires
 
-cast-width : tie.Need-overflow_cast-width
-cast-width c = search rules
+overflow_cast-width : tie.Need-overflow_cast-width
+overflow_cast-width c = search rules
 
-mul-line : tie.Need-overflow_mul-line
-mul-line c = omega (arith, (known c.before.before).line)
+overflow_mul-line : tie.Need-overflow_mul-line
+overflow_mul-line c = omega (arith, (known c.before.before).line)
 
-cast-pixel : tie.Need-overflow_cast-pixel
-cast-pixel c = search rules
+overflow_cast-pixel : tie.Need-overflow_cast-pixel
+overflow_cast-pixel c = search rules
 
-mul-pixel : tie.Need-overflow_mul-pixel
-mul-pixel c = omega (arith, (known c.before.before.before).pixel)
+overflow_mul-pixel : tie.Need-overflow_mul-pixel
+overflow_mul-pixel c = omega (arith, (known c.before.before.before).pixel)
 
-enum_told : tie.Need-enum_told-1
-enum_told c = search rules
+enum_told-1 : tie.Need-enum_told-1
+enum_told-1 c = search rules
 
-mul-t8 : tie.Need-overflow_mul-result
-mul-t8 c = omega (arith, (sizes _ c.requires).apart-le)
+overflow_mul-result : tie.Need-overflow_mul-result
+overflow_mul-result c = omega (arith, (sizes _ c.requires).apart-le)
 
-enum-told-2 : tie.Need-enum_told-in-P
-enum-told-2 c = search rules
+enum_told-in-P : tie.Need-enum_told-in-P
+enum_told-in-P c = search rules
 
-mul-t9 : tie.Need-overflow_mul-result-in-P
-mul-t9 c = omega (arith, (known c.before.before.before.before.before).pixels)
+overflow_mul-result-in-P : tie.Need-overflow_mul-result-in-P
+overflow_mul-result-in-P c = omega (arith, (known c.before.before.before.before.before).pixels)
 
-enum-told-3 : tie.Need-enum_told-in-R
-enum-told-3 c = search rules
+enum_told-in-R : tie.Need-enum_told-in-R
+enum_told-in-R c = search rules
 
-cast-t10 : tie.Need-overflow_cast-result
-cast-t10 c = search rules
+overflow_cast-result : tie.Need-overflow_cast-result
+overflow_cast-result c = search rules
 
-mul-t11 : tie.Need-overflow_mul-result-in-R
-mul-t11 c = omega (arith, (known c.before.before.before.before.before).lines)
+overflow_mul-result-in-R : tie.Need-overflow_mul-result-in-R
+overflow_mul-result-in-R c = omega (arith, (known c.before.before.before.before.before).lines)
 
-enum-told-4 : tie.Need-enum_told-in-S
-enum-told-4 c = search rules
+enum_told-in-S : tie.Need-enum_told-in-S
+enum_told-in-S c = search rules
 
-mul-t12 : tie.Need-overflow_mul-result-in-S
-mul-t12 c = omega (arith, (sizes _ c.requires).apart-le)
+overflow_mul-result-in-S : tie.Need-overflow_mul-result-in-S
+overflow_mul-result-in-S c = omega (arith, (sizes _ c.requires).apart-le)
 
-returns : tie.Need-returns-in-B
-returns c = rw c.in-B.is
+returns-in-B : tie.Need-returns-in-B
+returns-in-B c = rw c.in-B.is
 
-returns-2 : tie.Need-returns-in-P
-returns-2 c = rw c.in-P.is
+returns-in-P : tie.Need-returns-in-P
+returns-in-P c = rw c.in-P.is
 
-returns-3 : tie.Need-returns-in-R
-returns-3 c = rw c.in-R.is
+returns-in-R : tie.Need-returns-in-R
+returns-in-R c = rw c.in-R.is
 
-returns-4 : tie.Need-returns-in-S
-returns-4 c = rw c.in-S.is
+returns-in-S : tie.Need-returns-in-S
+returns-in-S c = rw c.in-S.is
 
 pub strides_spec : {M : Type 1} → statement M
 strides_spec =
     tie.close
     (tie.spec
-    cast-width
-    mul-line
-    cast-pixel
-    mul-pixel
-    enum_told
-    mul-t8
-    enum-told-2
-    mul-t9
-    enum-told-3
-    cast-t10
-    mul-t11
-    enum-told-4
-    mul-t12
-    returns
-    returns-2
-    returns-3
-    returns-4)
+    overflow_cast-width
+    overflow_mul-line
+    overflow_cast-pixel
+    overflow_mul-pixel
+    enum_told-1
+    overflow_mul-result
+    enum_told-in-P
+    overflow_mul-result-in-P
+    enum_told-in-R
+    overflow_cast-result
+    overflow_mul-result-in-R
+    enum_told-in-S
+    overflow_mul-result-in-S
+    returns-in-B
+    returns-in-P
+    returns-in-R
+    returns-in-S)

@@ -13,23 +13,23 @@ use Rattle.layout.proofs.bands.band_at.Tie as tie
 inside : (c : tie.Else-all) → c.args.k < length c.args.list.now
 inside c = listed_lt c.args.bands _ c.args.k c.if-all.false c.requires
 
-mul-result : tie.Need-offset_bounds-list-k
-mul-result c = omega (arith, inside c)
+offset_bounds-list-k : tie.Need-offset_bounds-list-k
+offset_bounds-list-k c = omega (arith, inside c)
 
-shared-slice-read-result : tie.Need-bounds-list-k
-shared-slice-read-result c = inside c.before
+bounds-list-k : tie.Need-bounds-list-k
+bounds-list-k c = inside c.before
 
-cast-result : tie.Need-overflow_cast-result
-cast-result c = omega (arith, c.shared_slice_known-1.given c.args.k)
+overflow_cast-result : tie.Need-overflow_cast-result
+overflow_cast-result c = omega (arith, c.shared_slice_known-1.given c.args.k)
 
-returns : tie.Need-returns-then-all
+returns-then-all : tie.Need-returns-then-all
 unfolding band_at
-returns c = sym (pick_yes _ _ c.if-all.true)
+returns-then-all c = sym (pick_yes _ _ c.if-all.true)
 
-returns-2 : tie.Need-returns-else-all
+returns-else-all : tie.Need-returns-else-all
 unfolding band_at
-returns-2 c = sym (pick_no _ _ c.if-all.false)
+returns-else-all c = sym (pick_no _ _ c.if-all.false)
 
 pub band_at_spec : {M : Type 1} → statement M
 band_at_spec =
-    tie.close (tie.spec mul-result shared-slice-read-result cast-result returns returns-2)
+    tie.close (tie.spec offset_bounds-list-k bounds-list-k overflow_cast-result returns-then-all returns-else-all)

@@ -6,13 +6,13 @@ use Rattle.common.proofs.Tests.{pick_yes, pick_no}
 use Rattle.layout.proofs.bands.band_count.Statement.{statement}
 use Rattle.layout.proofs.bands.band_count.Tie as tie
 
-returns : tie.Need-returns-then-all
+returns-then-all : tie.Need-returns-then-all
 unfolding band_count
-returns c = sym (pick_yes _ _ c.if-all.true)
+returns-then-all c = sym (pick_yes _ _ c.if-all.true)
 
-returns-2 : tie.Need-returns-else-all
+returns-else-all : tie.Need-returns-else-all
 unfolding band_count
-returns-2 c = sym (pick_no _ _ c.if-all.false)
+returns-else-all c = sym (pick_no _ _ c.if-all.false)
 
 pub band_count_spec : {M : Type 1} → statement M
-band_count_spec = tie.close (tie.spec returns returns-2)
+band_count_spec = tie.close (tie.spec returns-then-all returns-else-all)

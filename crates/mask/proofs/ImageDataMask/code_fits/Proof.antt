@@ -20,26 +20,26 @@ wide x n h l = sym (lt-ltb x (2 ^ (8 * n)) (lt_of_lt_of_le h (pow_mono {i = 32} 
 short : (n : ℕ) → n < 4 → 1 * 2 ^ (8 * n) % 2 ^ 64 ≡ 2 ^ (8 * n)
 short n h = shl_exact {a = 1} 1 (8 * n) 64 (omega arith) (omega arith) ∙ omega arith
 
-code-bytes-requires : tie.Need-code_bytes-bytes-requires
-code-bytes-requires c κs = search rules
+code_bytes-bytes-requires : tie.Need-code_bytes-bytes-requires
+code_bytes-bytes-requires c κs = search rules
 
-returns : tie.Need-returns-then-bytes-ge4
-returns c =
+returns-then-bytes-ge4 : tie.Need-returns-then-bytes-ge4
+returns-then-bytes-ge4 c =
     let bytes = c.code_bytes-bytes.ensures in
     wide c.args.self.pad_pixel_code _ (omega arith) (rw bytes at c.if-bytes-ge4.true)
 
-cast-result : tie.Need-overflow_cast-result
-cast-result c = search rules
+overflow_cast-result : tie.Need-overflow_cast-result
+overflow_cast-result c = search rules
 
-mul-result : tie.Need-overflow_mul-result
-mul-result c = search rules
+overflow_mul-result : tie.Need-overflow_mul-result
+overflow_mul-result c = search rules
 
-shl-result : tie.Need-overflow_shl-result
-shl-result c = search rules
+overflow_shl-result : tie.Need-overflow_shl-result
+overflow_shl-result c = search rules
 
-returns-2 : tie.Need-returns
-returns-2 c = rw (short _ c.if-bytes-ge4.false, c.code_bytes-bytes.ensures)
+returns : tie.Need-returns
+returns c = rw (short _ c.if-bytes-ge4.false, c.code_bytes-bytes.ensures)
 
 pub code_fits_spec : {M : Type 1} → statement M
 code_fits_spec =
-    tie.close (tie.spec code-bytes-requires returns cast-result mul-result shl-result returns-2)
+    tie.close (tie.spec code_bytes-bytes-requires returns-then-bytes-ge4 overflow_cast-result overflow_mul-result overflow_shl-result returns)

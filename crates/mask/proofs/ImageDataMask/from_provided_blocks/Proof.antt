@@ -22,30 +22,30 @@ facts : (c : tie.Else-number-ne0)
     FromMarks a.grid (length a.marks.now) (length a.out.now)
 facts c = from-marks-facts _ _ _ (zero c)
 
-marks-number-requires : tie.Need-marks_number-number-requires
-marks-number-requires c κs = search rules
+marks_number-number-requires : tie.Need-marks_number-number-requires
+marks_number-number-requires c κs = search rules
 
 none-requires : tie.Need-none-requires
 none-requires c κs = search rules
 
-returns : tie.Need-returns-then-number-ne0
+returns-then-number-ne0 : tie.Need-returns-then-number-ne0
 unfolding from_provided_blocks
-returns c =
+returns-then-number-ne0 c =
     rw c.none.ensures
     (refused-by _ (λ n. marks_with (no_parse n) _) c.marks_number-number.ensures c.if-number-ne0.true)
 
-fill-records-requires : tie.Need-fill_records-requires
-fill-records-requires c κs = let a = facts c.before in (a.accepted, (omega (arith, a.words), a.room))
+fill_records-requires : tie.Need-fill_records-requires
+fill_records-requires c κs = let a = facts c.before in (a.accepted, (omega (arith, a.words), a.room))
 
-record-count-requires : tie.Need-record_count-requires
-record-count-requires c κs = (facts c.before.before.before.before).accepted
+record_count-requires : tie.Need-record_count-requires
+record_count-requires c κs = (facts c.before.before.before.before).accepted
 
-same_length : tie.Need-shape_of-out
-same_length c = search rules
+shape_of-out : tie.Need-shape_of-out
+shape_of-out c = search rules
 
-returns-2 : tie.Need-returns
+returns : tie.Need-returns
 unfolding from_provided_blocks outcome
-returns-2 c =
+returns c =
     let f = c.before.before.before in
     rw (f.fill_records.ensures, c.record_count.ensures, zero f.before.before)
 
@@ -53,10 +53,10 @@ pub from_provided_blocks_spec : {M : Type 1} → statement M
 from_provided_blocks_spec =
     tie.close
     (tie.spec
-    marks-number-requires
+    marks_number-number-requires
     none-requires
-    returns
-    fill-records-requires
-    record-count-requires
-    same_length
-    returns-2)
+    returns-then-number-ne0
+    fill_records-requires
+    record_count-requires
+    shape_of-out
+    returns)

@@ -18,34 +18,34 @@ zero : (c : tie.Else-number-ne0)
     lookup_number a.grid a.table.now a.block_row a.block_col a.band ≡ 0
 zero c = sym c.lookup_number-number.ensures ∙ c.if-number-ne0.false
 
-lookup-number-requires : tie.Need-lookup_number-number-requires
-lookup-number-requires c κs = search rules
+lookup_number-number-requires : tie.Need-lookup_number-number-requires
+lookup_number-number-requires c κs = search rules
 
-returns : tie.Need-returns-then-number-ne0
+returns-then-number-ne0 : tie.Need-returns-then-number-ne0
 unfolding get_block_offset
-returns c = refused-by _ no_offset c.lookup_number-number.ensures c.if-number-ne0.true
+returns-then-number-ne0 c = refused-by _ no_offset c.lookup_number-number.ensures c.if-number-ne0.true
 
-read-two-requires : tie.Need-read_two-requires
-read-two-requires c κs = omega (arith, (lookup-facts _ _ _ _ _ (zero c)).parsed.ten)
+read_two-requires : tie.Need-read_two-requires
+read_two-requires c κs = omega (arith, (lookup-facts _ _ _ _ _ (zero c)).parsed.ten)
 
-returns-2 : tie.Need-returns-then-read_two-eq0
+returns-then-read_two-eq0 : tie.Need-returns-then-read_two-eq0
 unfolding get_block_offset outcome is_given pick
-returns-2 c = rw (zero c.before.before, eq-eqb _ 0 (sym c.read_two.ensures ∙ c.if-read_two-eq0.true))
+returns-then-read_two-eq0 c = rw (zero c.before.before, eq-eqb _ 0 (sym c.read_two.ensures ∙ c.if-read_two-eq0.true))
 
-record-of-requires : tie.Need-record_of-offset-requires
-record-of-requires c κs = search rules
+record_of-offset-requires : tie.Need-record_of-offset-requires
+record_of-offset-requires c κs = search rules
 
-returns-3 : tie.Need-returns-then-offset
+returns-then-offset : tie.Need-returns-then-offset
 unfolding get_block_offset outcome is_given pick
-returns-3 c =
+returns-then-offset c =
     let r = c.before in
     let l = r.before in
     let has-records = ne_eqb _ 0 (rw l.read_two.ensures at l.if-read_two-eq0.false) in
     rw (zero l.before.before, has-records, ← r.record_of-offset.ensures, eq-eqb _ _ c.if-offset.true)
 
-returns-4 : tie.Need-returns
+returns : tie.Need-returns
 unfolding get_block_offset outcome is_given pick
-returns-4 c =
+returns c =
     let r = c.before in
     let l = r.before in
     let has-records = ne_eqb _ 0 (rw l.read_two.ensures at l.if-read_two-eq0.false) in
@@ -55,10 +55,10 @@ pub get_block_offset_spec : {M : Type 1} → statement M
 get_block_offset_spec =
     tie.close
     (tie.spec
-    lookup-number-requires
-    returns
-    read-two-requires
-    returns-2
-    record-of-requires
-    returns-3
-    returns-4)
+    lookup_number-number-requires
+    returns-then-number-ne0
+    read_two-requires
+    returns-then-read_two-eq0
+    record_of-offset-requires
+    returns-then-offset
+    returns)

@@ -18,26 +18,26 @@ zero : (c : tie.Else-number-ne0)
     lookup_number a.grid a.table.now a.block_row a.block_col a.band ≡ 0
 zero c = sym c.lookup_number-number.ensures ∙ c.if-number-ne0.false
 
-lookup-number-requires : tie.Need-lookup_number-number-requires
-lookup-number-requires c κs = search rules
+lookup_number-number-requires : tie.Need-lookup_number-number-requires
+lookup_number-number-requires c κs = search rules
 
-returns : tie.Need-returns-then-number-ne0
+returns-then-number-ne0 : tie.Need-returns-then-number-ne0
 unfolding has_block
-returns c = refused-by _ not_present c.lookup_number-number.ensures c.if-number-ne0.true
+returns-then-number-ne0 c = refused-by _ not_present c.lookup_number-number.ensures c.if-number-ne0.true
 
-read-two-requires : tie.Need-read_two-requires
-read-two-requires c κs = omega (arith, (lookup-facts _ _ _ _ _ (zero c)).parsed.ten)
+read_two-requires : tie.Need-read_two-requires
+read_two-requires c κs = omega (arith, (lookup-facts _ _ _ _ _ (zero c)).parsed.ten)
 
-returns-2 : tie.Need-returns-then-read_two-eq0
+returns-then-read_two-eq0 : tie.Need-returns-then-read_two-eq0
 unfolding has_block outcome is_present pick
-returns-2 c = rw (zero c.before.before, eq-eqb _ 0 (sym c.read_two.ensures ∙ c.if-read_two-eq0.true))
+returns-then-read_two-eq0 c = rw (zero c.before.before, eq-eqb _ 0 (sym c.read_two.ensures ∙ c.if-read_two-eq0.true))
 
-record-of-requires : tie.Need-record_of-record-requires
-record-of-requires c κs = search rules
+record_of-record-requires : tie.Need-record_of-record-requires
+record_of-record-requires c κs = search rules
 
-returns-3 : tie.Need-returns
+returns : tie.Need-returns
 unfolding has_block outcome is_present pick
-returns-3 c =
+returns c =
     let l = c.before in
     let has-records = ne_eqb _ 0 (rw l.read_two.ensures at l.if-read_two-eq0.false) in
     rw (zero l.before.before, has-records, c.record_of-record.ensures)
@@ -46,9 +46,9 @@ pub has_block_spec : {M : Type 1} → statement M
 has_block_spec =
     tie.close
     (tie.spec
-    lookup-number-requires
-    returns
-    read-two-requires
-    returns-2
-    record-of-requires
-    returns-3)
+    lookup_number-number-requires
+    returns-then-number-ne0
+    read_two-requires
+    returns-then-read_two-eq0
+    record_of-record-requires
+    returns)

@@ -7,21 +7,21 @@ use Rattle.common.proofs.Tests.{every-last}
 use Rattle.mask.proofs.ImageDataMask.has_record_lengths.Statement.{statement}
 use Rattle.mask.proofs.ImageDataMask.has_record_lengths.Tie as tie
 
-is-record-length-requires : tie.Need-is_record_length-requires
-is-record-length-requires c κs = search rules
+is_record_length-requires : tie.Need-is_record_length-requires
+is_record_length-requires c κs = search rules
 
-returns : tie.Need-returns-then-not-is_record_length
+returns-then-not-is_record_length : tie.Need-returns-then-not-is_record_length
 unfolding every
-returns c = rw (no c.is_record_length.ensures c.if-not-is_record_length.true)
+returns-then-not-is_record_length c = rw (no c.is_record_length.ensures c.if-not-is_record_length.true)
 
-is-record-length-requires-2 : tie.Need-is_record_length-requires-2
-is-record-length-requires-2 c κs = search rules
+is_record_length-requires-2 : tie.Need-is_record_length-requires-2
+is_record_length-requires-2 c κs = search rules
 
-returns-2 : tie.Need-returns
+returns : tie.Need-returns
 unfolding every
-returns-2 c =
+returns c =
     rw (yes c.is_record_length.ensures c.if-not-is_record_length.false, c.is_record_length-2.ensures) (every-last _)
 
 pub has_record_lengths_spec : {M : Type 1} → statement M
 has_record_lengths_spec =
-    tie.close (tie.spec is-record-length-requires returns is-record-length-requires-2 returns-2)
+    tie.close (tie.spec is_record_length-requires returns-then-not-is_record_length is_record_length-requires-2 returns)

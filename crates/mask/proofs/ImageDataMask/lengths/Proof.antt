@@ -4,17 +4,17 @@ use borrow.Author.Rules.{rules}
 use Rattle.mask.proofs.ImageDataMask.lengths.Statement.{statement}
 use Rattle.mask.proofs.ImageDataMask.lengths.Tie as tie
 
-read-four-requires : tie.Need-read_four-requires
-read-four-requires c κs = search rules
+read_four-requires : tie.Need-read_four-requires
+read_four-requires c κs = search rules
 
-read-two-requires : tie.Need-read_two-requires
-read-two-requires c κs = search rules
+read_two-requires : tie.Need-read_two-requires
+read_two-requires c κs = search rules
 
-read-two-requires-2 : tie.Need-read_two-requires-2
-read-two-requires-2 c κs = search rules
+read_two-requires-2 : tie.Need-read_two-requires-2
+read_two-requires-2 c κs = search rules
 
-read-two-requires-3 : tie.Need-read_two-requires-3
-read-two-requires-3 c κs = search rules
+read_two-requires-3 : tie.Need-read_two-requires-3
+read_two-requires-3 c κs = search rules
 
 returns : tie.Need-returns
 returns c =
@@ -24,4 +24,4 @@ returns c =
 pub lengths_spec : {M : Type 1} → statement M
 lengths_spec =
     tie.close
-    (tie.spec read-four-requires read-two-requires read-two-requires-2 read-two-requires-3 returns)
+    (tie.spec read_four-requires read_two-requires read_two-requires-2 read_two-requires-3 returns)

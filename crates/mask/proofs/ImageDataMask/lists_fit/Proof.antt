@@ -7,23 +7,23 @@ use Rattle.common.proofs.Tests.{every-last}
 use Rattle.mask.proofs.ImageDataMask.lists_fit.Statement.{statement}
 use Rattle.mask.proofs.ImageDataMask.lists_fit.Tie as tie
 
-record-count-requires : tie.Need-record_count-records-requires
-record-count-requires c κs = search rules
+record_count-records-requires : tie.Need-record_count-records-requires
+record_count-records-requires c κs = search rules
 
 pick-requires : tie.Need-pick-requires
 pick-requires c κs = search rules
 
-returns : tie.Need-returns-then-blocks-pick
+returns-then-blocks-pick : tie.Need-returns-then-blocks-pick
 unfolding every
-returns c =
+returns-then-blocks-pick c =
     rw (← c.record_count-records.ensures, ← c.pick.ensures, ne_eqb _ _ c.if-blocks-pick.true)
 
 pick-requires-2 : tie.Need-pick-requires-2
 pick-requires-2 c κs = search rules
 
-returns-2 : tie.Need-returns
+returns : tie.Need-returns
 unfolding every
-returns-2 c =
+returns c =
     let blocks = c.before.before in
     rw (
       ← blocks.record_count-records.ensures,
@@ -35,4 +35,4 @@ returns-2 c =
 
 pub lists_fit_spec : {M : Type 1} → statement M
 lists_fit_spec =
-    tie.close (tie.spec record-count-requires pick-requires returns pick-requires-2 returns-2)
+    tie.close (tie.spec record_count-records-requires pick-requires returns-then-blocks-pick pick-requires-2 returns)

@@ -21,32 +21,32 @@ rest c =
     let a = c.args in
     (table_before a.grid a.table.now).accepts c.parse_number-number.ensures c.if-number-ne0.false _
 
-parse-number-requires : tie.Need-parse_number-number-requires
-parse-number-requires c κs = search rules
+parse_number-number-requires : tie.Need-parse_number-number-requires
+parse_number-number-requires c κs = search rules
 
-returns : tie.Need-returns-then-number-ne0
+returns-then-number-ne0 : tie.Need-returns-then-number-ne0
 unfolding parse_number lookup_number
-returns c =
+returns-then-number-ne0 c =
     let a = c.args in
     (table_before a.grid a.table.now).refuses c.parse_number-number.ensures c.if-number-ne0.true _
 
-has-block-requires : tie.Need-has_block-requires
-has-block-requires c κs = search rules
+has_block-requires : tie.Need-has_block-requires
+has_block-requires c κs = search rules
 
-returns-2 : tie.Need-returns-then-not-has_block
-returns-2 c = rw (rest c.before.before, no c.has_block.ensures c.if-not-has_block.true)
+returns-then-not-has_block : tie.Need-returns-then-not-has_block
+returns-then-not-has_block c = rw (rest c.before.before, no c.has_block.ensures c.if-not-has_block.true)
 
-returns-3 : tie.Need-returns-then-band-grid
-returns-3 c =
+returns-then-band-grid : tie.Need-returns-then-band-grid
+returns-then-band-grid c =
     let b = c.before.before in
     rw (rest b.before.before, yes b.has_block.ensures b.if-not-has_block.false, le-ltb _ _ c.if-band-grid.true)
 
-returns-4 : tie.Need-returns
-returns-4 c =
+returns : tie.Need-returns
+returns c =
     let b = c.before.before in
     rw (rest b.before.before, yes b.has_block.ensures b.if-not-has_block.false, lt-ltb _ _ c.if-band-grid.false)
 
 pub lookup_number_spec : {M : Type 1} → statement M
 lookup_number_spec =
     tie.close
-    (tie.spec parse-number-requires returns has-block-requires returns-2 returns-3 returns-4)
+    (tie.spec parse_number-number-requires returns-then-number-ne0 has_block-requires returns-then-not-has_block returns-then-band-grid returns)

@@ -22,29 +22,29 @@ words_are : (c : tie.After-has_words)
     → let a = c.args in c.has_words.result ≡ q12 (blocks a.grid) a.words
 words_are c = rw c.blocks-2.ensures at c.has_words.ensures
 
-check-requires : tie.Need-check-number-requires
-check-requires c κs = search rules
+check-number-requires : tie.Need-check-number-requires
+check-number-requires c κs = search rules
 
-returns : tie.Need-returns-then-number-ne0
+returns-then-number-ne0 : tie.Need-returns-then-number-ne0
 unfolding grid_number from_marks_number
-returns c = (grid-before _).refuses c.check-number.ensures c.if-number-ne0.true _
+returns-then-number-ne0 c = (grid-before _).refuses c.check-number.ensures c.if-number-ne0.true _
 
 blocks-requires : tie.Need-blocks-requires
 blocks-requires c κs = search rules
 
-has-words-requires : tie.Need-has_words-requires
-has-words-requires c κs = rw c.blocks-2.ensures (omega (arith, (facts _ (accepted c.before)).blocks-le))
+has_words-requires : tie.Need-has_words-requires
+has_words-requires c κs = rw c.blocks-2.ensures (omega (arith, (facts _ (accepted c.before)).blocks-le))
 
-returns-2 : tie.Need-returns-then-not-has_words
+returns-then-not-has_words : tie.Need-returns-then-not-has_words
 unfolding from_marks_number
-returns-2 c = rw (grid-yes _ _ (accepted c.before.before.before), no (words_are c.before) c.if-not-has_words.true)
+returns-then-not-has_words c = rw (grid-yes _ _ (accepted c.before.before.before), no (words_are c.before) c.if-not-has_words.true)
 
-record-count-requires : tie.Need-record_count-requires
-record-count-requires c κs = search rules
+record_count-requires : tie.Need-record_count-requires
+record_count-requires c κs = search rules
 
-returns-3 : tie.Need-returns-then-room-record_count
+returns-then-room-record_count : tie.Need-returns-then-room-record_count
 unfolding from_marks_number
-returns-3 c =
+returns-then-room-record_count c =
     let w = c.before.before in
     rw (
       grid-yes _ _ (accepted w.before.before.before),
@@ -52,9 +52,9 @@ returns-3 c =
       lt-leb _ _ (rw c.record_count.ensures at c.if-room-record_count.true),
     )
 
-returns-4 : tie.Need-returns
+returns : tie.Need-returns
 unfolding from_marks_number
-returns-4 c =
+returns c =
     let w = c.before.before in
     rw (
       grid-yes _ _ (accepted w.before.before.before),
@@ -66,11 +66,11 @@ pub marks_number_spec : {M : Type 1} → statement M
 marks_number_spec =
     tie.close
     (tie.spec
-    check-requires
-    returns
+    check-number-requires
+    returns-then-number-ne0
     blocks-requires
-    has-words-requires
-    returns-2
-    record-count-requires
-    returns-3
-    returns-4)
+    has_words-requires
+    returns-then-not-has_words
+    record_count-requires
+    returns-then-room-record_count
+    returns)

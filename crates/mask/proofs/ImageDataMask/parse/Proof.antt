@@ -39,39 +39,39 @@ code_in c =
     let l = c.before.before in
     rw (c.code_bytes-size.ensures, l.lengths-mask.ensures) (code_inside _ _ (facts l.before))
 
-parse-number-requires : tie.Need-parse_number-number-requires
-parse-number-requires c κs = search rules
+parse_number-number-requires : tie.Need-parse_number-number-requires
+parse_number-number-requires c κs = search rules
 
 none-requires : tie.Need-none-requires
 none-requires c κs = search rules
 
-returns : tie.Need-returns-then-number-ne0
+returns-then-number-ne0 : tie.Need-returns-then-number-ne0
 unfolding parse
-returns c =
+returns-then-number-ne0 c =
     rw c.none.ensures
     (refused-by _ no_parse c.parse_number-number.ensures c.if-number-ne0.true)
 
-lengths-requires : tie.Need-lengths-mask-requires
-lengths-requires c κs = (facts c).ten
+lengths-mask-requires : tie.Need-lengths-mask-requires
+lengths-mask-requires c κs = (facts c).ten
 
-table-bytes-requires : tie.Need-table_bytes-used-requires
-table-bytes-requires c κs = (facts c.before).accepted
+table_bytes-used-requires : tie.Need-table_bytes-used-requires
+table_bytes-used-requires c κs = (facts c.before).accepted
 
-code-bytes-requires : tie.Need-code_bytes-size-requires
-code-bytes-requires c κs = search rules
+code_bytes-size-requires : tie.Need-code_bytes-size-requires
+code_bytes-size-requires c κs = search rules
 
-get-be-requires : tie.Need-get_be-requires
-get-be-requires c κs = omega (arith, code_in c)
+get_be-requires : tie.Need-get_be-requires
+get_be-requires c κs = omega (arith, code_in c)
 
-cast-mask : tie.Need-overflow_cast-mask
-cast-mask c =
+overflow_cast-mask : tie.Need-overflow_cast-mask
+overflow_cast-mask c =
     let h = c.before.before.before.before in
     let table = h.args.table.now in
     let bytes : Bytes table = λ i. (h.shared_slice_known-1.given i).fits in
     record { fits = code_lt table _ bytes (code_in c.before).0 c.get_be.ensures }
 
-returns-2 : tie.Need-returns
-returns-2 c =
+returns : tie.Need-returns
+returns c =
     let size = c.before.before in
     let l = size.before in
     done _ _ (zero l.before) (rw (c.get_be.ensures, c.code_bytes-size.ensures, l.lengths-mask.ensures))
@@ -81,12 +81,12 @@ pub parse_spec : {M : Type 1} → statement M
 parse_spec =
     tie.close
     (tie.spec
-    parse-number-requires
+    parse_number-number-requires
     none-requires
-    returns
-    lengths-requires
-    table-bytes-requires
-    code-bytes-requires
-    get-be-requires
-    cast-mask
-    returns-2)
+    returns-then-number-ne0
+    lengths-mask-requires
+    table_bytes-used-requires
+    code_bytes-size-requires
+    get_be-requires
+    overflow_cast-mask
+    returns)

@@ -13,11 +13,11 @@ use Rattle.mask.proofs.ImageDataMask.parse_number.Statement.{statement}
 use Rattle.mask.proofs.ImageDataMask.parse_number.Tie as tie
 
 -- earlier places of the code
-abbrev past-16 : tie.Else-not-has_record_lengths → tie.Else-table-lt-HEADER_BYTES
-past-16 c = c.before.before.before
+abbrev past_16 : tie.Else-not-has_record_lengths → tie.Else-table-lt-HEADER_BYTES
+past_16 c = c.before.before.before
 
-abbrev past-17 : tie.Else-head-gt-MAX_CODE_BITS → tie.Else-not-has_record_lengths
-past-17 c = c.before.before
+abbrev past_17 : tie.Else-head-gt-MAX_CODE_BITS → tie.Else-not-has_record_lengths
+past_17 c = c.before.before
 
 -- what is known past each question
 rest : (c : tie.Else-number-ne0)
@@ -26,82 +26,82 @@ rest : (c : tie.Else-number-ne0)
 unfolding grid_number parse_number
 rest c = (grid-before _).accepts c.check-number.ensures c.if-number-ne0.false _
 
-q16-yes : (c : tie.Else-table-lt-HEADER_BYTES) → q16 c.args.table.now ≡ true
-q16-yes c = le-leb 10 _ c.if-table-lt-HEADER_BYTES.false
+q16_yes : (c : tie.Else-table-lt-HEADER_BYTES) → q16 c.args.table.now ≡ true
+q16_yes c = le-leb 10 _ c.if-table-lt-HEADER_BYTES.false
 
 lengths_are : (c : tie.After-has_record_lengths)
     → c.has_record_lengths.result ≡ q17 (header c.args.table.now)
 lengths_are c = rw c.lengths-head.ensures at c.has_record_lengths.ensures
 
-q17-yes : (c : tie.Else-not-has_record_lengths) → q17 (header (past-16 c).args.table.now) ≡ true
-q17-yes c = yes (lengths_are c.before) c.if-not-has_record_lengths.false
+q17_yes : (c : tie.Else-not-has_record_lengths) → q17 (header (past_16 c).args.table.now) ≡ true
+q17_yes c = yes (lengths_are c.before) c.if-not-has_record_lengths.false
 
-q18-yes : (c : tie.Else-head-gt-MAX_CODE_BITS) → q18 (header (past-16 (past-17 c)).args.table.now) ≡ true
-q18-yes c = le-leb _ _ (rw (past-17 c).lengths-head.ensures at c.if-head-gt-MAX_CODE_BITS.false)
+q18_yes : (c : tie.Else-head-gt-MAX_CODE_BITS) → q18 (header (past_16 (past_17 c)).args.table.now) ≡ true
+q18_yes c = le-leb _ _ (rw (past_17 c).lengths-head.ensures at c.if-head-gt-MAX_CODE_BITS.false)
 
 size_is : (c : tie.After-table_bytes)
-    → let a = (past-16 (past-17 c.before)).args in
+    → let a = (past_16 (past_17 c.before)).args in
     c.table_bytes.result ≡ mask_size a.grid (header a.table.now)
-size_is c = rw (past-17 c.before).lengths-head.ensures at c.table_bytes.ensures
+size_is c = rw (past_17 c.before).lengths-head.ensures at c.table_bytes.ensures
 
-check-requires : tie.Need-check-number-requires
-check-requires c κs = search rules
+check-number-requires : tie.Need-check-number-requires
+check-number-requires c κs = search rules
 
-returns : tie.Need-returns-then-number-ne0
+returns-then-number-ne0 : tie.Need-returns-then-number-ne0
 unfolding grid_number parse_number
-returns c = (grid-before _).refuses c.check-number.ensures c.if-number-ne0.true _
+returns-then-number-ne0 c = (grid-before _).refuses c.check-number.ensures c.if-number-ne0.true _
 
-returns-2 : tie.Need-returns-then-table-lt-HEADER_BYTES
-returns-2 c = rw (rest c.before, lt-leb 10 _ c.if-table-lt-HEADER_BYTES.true)
+returns-then-table-lt-HEADER_BYTES : tie.Need-returns-then-table-lt-HEADER_BYTES
+returns-then-table-lt-HEADER_BYTES c = rw (rest c.before, lt-leb 10 _ c.if-table-lt-HEADER_BYTES.true)
 
-lengths-requires : tie.Need-lengths-head-requires
-lengths-requires c κs = search rules
+lengths-head-requires : tie.Need-lengths-head-requires
+lengths-head-requires c κs = search rules
 
-has-record-lengths-requires : tie.Need-has_record_lengths-requires
-has-record-lengths-requires c κs = search rules
+has_record_lengths-requires : tie.Need-has_record_lengths-requires
+has_record_lengths-requires c κs = search rules
 
-returns-3 : tie.Need-returns-then-not-has_record_lengths
-returns-3 c =
+returns-then-not-has_record_lengths : tie.Need-returns-then-not-has_record_lengths
+returns-then-not-has_record_lengths c =
     let h = c.before.before.before in
-    rw (rest h.before, q16-yes h, no (lengths_are c.before) c.if-not-has_record_lengths.true)
+    rw (rest h.before, q16_yes h, no (lengths_are c.before) c.if-not-has_record_lengths.true)
 
-returns-4 : tie.Need-returns-then-head-gt-MAX_CODE_BITS
-returns-4 c =
+returns-then-head-gt-MAX_CODE_BITS : tie.Need-returns-then-head-gt-MAX_CODE_BITS
+returns-then-head-gt-MAX_CODE_BITS c =
     let l = c.before.before in
-    let h = past-16 l in
+    let h = past_16 l in
     let bits = rw l.lengths-head.ensures at c.if-head-gt-MAX_CODE_BITS.true in
-    rw (rest h.before, q16-yes h, q17-yes l, lt-leb _ 32 bits)
+    rw (rest h.before, q16_yes h, q17_yes l, lt-leb _ 32 bits)
 
-table-bytes-requires : tie.Need-table_bytes-requires
-table-bytes-requires c κs = search rules
+table_bytes-requires : tie.Need-table_bytes-requires
+table_bytes-requires c κs = search rules
 
-returns-5 : tie.Need-returns-then-table-table_bytes
-returns-5 c =
+returns-then-table-table_bytes : tie.Need-returns-then-table-table_bytes
+returns-then-table-table_bytes c =
     let k = c.before.before in
-    let l = past-17 k in
-    let h = past-16 l in
+    let l = past_17 k in
+    let h = past_16 l in
     let size = rw (size_is c.before) at c.if-table-table_bytes.true in
-    rw (rest h.before, q16-yes h, q17-yes l, q18-yes k, lt-leb _ _ size)
+    rw (rest h.before, q16_yes h, q17_yes l, q18_yes k, lt-leb _ _ size)
 
-returns-6 : tie.Need-returns
-returns-6 c =
+returns : tie.Need-returns
+returns c =
     let k = c.before.before in
-    let l = past-17 k in
-    let h = past-16 l in
+    let l = past_17 k in
+    let h = past_16 l in
     let size = rw (size_is c.before) at c.if-table-table_bytes.false in
-    rw (rest h.before, q16-yes h, q17-yes l, q18-yes k, le-leb _ _ size)
+    rw (rest h.before, q16_yes h, q17_yes l, q18_yes k, le-leb _ _ size)
 
 pub parse_number_spec : {M : Type 1} → statement M
 parse_number_spec =
     tie.close
     (tie.spec
-    check-requires
-    returns
-    returns-2
-    lengths-requires
-    has-record-lengths-requires
-    returns-3
-    returns-4
-    table-bytes-requires
-    returns-5
-    returns-6)
+    check-number-requires
+    returns-then-number-ne0
+    returns-then-table-lt-HEADER_BYTES
+    lengths-head-requires
+    has_record_lengths-requires
+    returns-then-not-has_record_lengths
+    returns-then-head-gt-MAX_CODE_BITS
+    table_bytes-requires
+    returns-then-table-table_bytes
+    returns)

@@ -5,29 +5,29 @@ use Rattle.mask.proofs.TableWrites.{lengths-put}
 use Rattle.mask.proofs.ImageDataMask.put_lengths.Statement.{statement}
 use Rattle.mask.proofs.ImageDataMask.put_lengths.Tie as tie
 
-put-be-requires : tie.Need-put_be-requires
-put-be-requires c κs = search rules
+put_be-requires : tie.Need-put_be-requires
+put_be-requires c κs = search rules
 
-cast-put-be : tie.Need-overflow_cast-self
-cast-put-be c = search rules
+overflow_cast-self : tie.Need-overflow_cast-self
+overflow_cast-self c = search rules
 
-put-be-requires-2 : tie.Need-put_be-requires-2
-put-be-requires-2 c κs = search rules
+put_be-requires-2 : tie.Need-put_be-requires-2
+put_be-requires-2 c κs = search rules
 
-cast-put-be-2 : tie.Need-overflow_cast-self-2
-cast-put-be-2 c = search rules
+overflow_cast-self-2 : tie.Need-overflow_cast-self-2
+overflow_cast-self-2 c = search rules
 
-put-be-requires-3 : tie.Need-put_be-requires-3
-put-be-requires-3 c κs = search rules
+put_be-requires-3 : tie.Need-put_be-requires-3
+put_be-requires-3 c κs = search rules
 
-cast-put-be-3 : tie.Need-overflow_cast-self-3
-cast-put-be-3 c = search rules
+overflow_cast-self-3 : tie.Need-overflow_cast-self-3
+overflow_cast-self-3 c = search rules
 
-put-be-requires-4 : tie.Need-put_be-requires-4
-put-be-requires-4 c κs = search rules
+put_be-requires-4 : tie.Need-put_be-requires-4
+put_be-requires-4 c κs = search rules
 
-same_length : tie.Need-shape_of-out
-same_length c = search rules
+shape_of-out : tie.Need-shape_of-out
+shape_of-out c = search rules
 
 returns : tie.Need-returns
 returns c =
@@ -41,12 +41,12 @@ pub put_lengths_spec : {M : Type 1} → statement M
 put_lengths_spec =
     tie.close
     (tie.spec
-    put-be-requires
-    cast-put-be
-    put-be-requires-2
-    cast-put-be-2
-    put-be-requires-3
-    cast-put-be-3
-    put-be-requires-4
-    same_length
+    put_be-requires
+    overflow_cast-self
+    put_be-requires-2
+    overflow_cast-self-2
+    put_be-requires-3
+    overflow_cast-self-3
+    put_be-requires-4
+    shape_of-out
     returns)

@@ -46,26 +46,26 @@ inside c =
     let s = c.before.before.before.before in
     rw (place_is c) (record_inside _ _ _ _ _ (facts s) s.requires.1)
 
-lookup-record-requires : tie.Need-lookup_record-record-requires
-lookup-record-requires c κs = let l = facts c.before in (l.parsed.accepted, l.block)
+lookup_record-record-requires : tie.Need-lookup_record-record-requires
+lookup_record-record-requires c κs = let l = facts c.before in (l.parsed.accepted, l.block)
 
-read-two-requires : tie.Need-read_two-requires
-read-two-requires c κs = omega (arith, (facts c.before.before).parsed.ten)
+read_two-requires : tie.Need-read_two-requires
+read_two-requires c κs = omega (arith, (facts c.before.before).parsed.ten)
 
-code-bytes-requires : tie.Need-code_bytes-code-requires
-code-bytes-requires c κs = search rules
+code_bytes-code-requires : tie.Need-code_bytes-code-requires
+code_bytes-code-requires c κs = search rules
 
-add-read-four : tie.Need-overflow_add-code
-add-read-four c = search rules
+overflow_add-code : tie.Need-overflow_add-code
+overflow_add-code c = search rules
 
-mul-read-four : tie.Need-overflow_mul-record
-mul-read-four c = omega (arith, inside c)
+overflow_mul-record : tie.Need-overflow_mul-record
+overflow_mul-record c = omega (arith, inside c)
 
-add-read-four-2 : tie.Need-overflow_add-code-2
-add-read-four-2 c = omega (arith, inside c)
+overflow_add-code-2 : tie.Need-overflow_add-code-2
+overflow_add-code-2 c = omega (arith, inside c)
 
-read-four-requires : tie.Need-read_four-requires
-read-four-requires c κs = omega (arith, inside c)
+read_four-requires : tie.Need-read_four-requires
+read_four-requires c κs = omega (arith, inside c)
 
 returns : tie.Need-returns
 unfolding block_record
@@ -77,11 +77,11 @@ pub record_of_spec : {M : Type 1} → statement M
 record_of_spec =
     tie.close
     (tie.spec
-    lookup-record-requires
-    read-two-requires
-    code-bytes-requires
-    add-read-four
-    mul-read-four
-    add-read-four-2
-    read-four-requires
+    lookup_record-record-requires
+    read_two-requires
+    code_bytes-code-requires
+    overflow_add-code
+    overflow_mul-record
+    overflow_add-code-2
+    read_four-requires
     returns)

@@ -16,29 +16,29 @@ fits : (c : tie.After-record_count)
 fits c =
     record_bytes-le _ _ _ _ c.requires c.record_count.ensures (omega arith) (omega arith)
 
-cast-block : tie.Need-overflow_cast-block
-cast-block c = search rules
+overflow_cast-block : tie.Need-overflow_cast-block
+overflow_cast-block c = search rules
 
-cast-pad : tie.Need-overflow_cast-pad
-cast-pad c = search rules
+overflow_cast-pad : tie.Need-overflow_cast-pad
+overflow_cast-pad c = search rules
 
-code-bytes-requires : tie.Need-code_bytes-code-requires
-code-bytes-requires c κs = search rules
+code_bytes-code-requires : tie.Need-code_bytes-code-requires
+code_bytes-code-requires c κs = search rules
 
-add-result : tie.Need-overflow_add-result
-add-result c = search rules
+overflow_add-result : tie.Need-overflow_add-result
+overflow_add-result c = search rules
 
-record-count-requires : tie.Need-record_count-requires
-record-count-requires c κs = search rules
+record_count-requires : tie.Need-record_count-requires
+record_count-requires c κs = search rules
 
-add-result-2 : tie.Need-overflow_add-result-2
-add-result-2 c = search rules
+overflow_add-result-2 : tie.Need-overflow_add-result-2
+overflow_add-result-2 c = search rules
 
-mul-result : tie.Need-overflow_mul-result
-mul-result c = omega (arith, fits c)
+overflow_mul-result : tie.Need-overflow_mul-result
+overflow_mul-result c = omega (arith, fits c)
 
-add-result-3 : tie.Need-overflow_add-result-3
-add-result-3 c = omega (arith, fits c)
+overflow_add-result-3 : tie.Need-overflow_add-result-3
+overflow_add-result-3 c = omega (arith, fits c)
 
 returns : tie.Need-returns
 unfolding table_size
@@ -48,12 +48,12 @@ pub table_bytes_spec : {M : Type 1} → statement M
 table_bytes_spec =
     tie.close
     (tie.spec
-    cast-block
-    cast-pad
-    code-bytes-requires
-    add-result
-    record-count-requires
-    add-result-2
-    mul-result
-    add-result-3
+    overflow_cast-block
+    overflow_cast-pad
+    code_bytes-code-requires
+    overflow_add-result
+    record_count-requires
+    overflow_add-result-2
+    overflow_mul-result
+    overflow_add-result-3
     returns)

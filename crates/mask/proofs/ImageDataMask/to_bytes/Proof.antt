@@ -27,68 +27,68 @@ facts : (c : tie.Else-number-ne0)
 facts c = mask_write-facts _ _ _ _ _ (zero c)
 
 -- from each call that puts to what was before it
-abbrev accepted-before : tie.After-code_bytes-code → tie.Else-number-ne0
-accepted-before c = c.before.before.before.before.before.before
+abbrev accepted_before : tie.After-code_bytes-code → tie.Else-number-ne0
+accepted_before c = c.before.before.before.before.before.before
 
-abbrev code-before : tie.After-put_be → tie.After-code_bytes-code
-code-before c = c.before.before.before
+abbrev code_before : tie.After-put_be → tie.After-code_bytes-code
+code_before c = c.before.before.before
 
-abbrev blocks-before : tie.After-put_offsets-arg-2-1 → tie.After-put_be
-blocks-before c = c.before.before.before.before.before.before.before
+abbrev blocks_before : tie.After-put_offsets-arg-2-1 → tie.After-put_be
+blocks_before c = c.before.before.before.before.before.before.before
 
-write-number-requires : tie.Need-write_number-number-requires
-write-number-requires c κs = search rules
+write_number-number-requires : tie.Need-write_number-number-requires
+write_number-number-requires c κs = search rules
 
-returns : tie.Need-returns-then-number-ne0
+returns-then-number-ne0 : tie.Need-returns-then-number-ne0
 unfolding to_bytes
-returns c = refused-by _ (λ n. written_with (not_written n) _) c.write_number-number.ensures c.if-number-ne0.true
+returns-then-number-ne0 c = refused-by _ (λ n. written_with (not_written n) _) c.write_number-number.ensures c.if-number-ne0.true
 
-table-bytes-requires : tie.Need-table_bytes-size-requires
-table-bytes-requires c κs = (facts c).accepted
+table_bytes-size-requires : tie.Need-table_bytes-size-requires
+table_bytes-size-requires c κs = (facts c).accepted
 
-put-lengths-requires : tie.Need-put_lengths-requires
-put-lengths-requires c κs = omega (arith, table-room _ _ _ _ _ (facts c.before.before))
+put_lengths-requires : tie.Need-put_lengths-requires
+put_lengths-requires c κs = omega (arith, table-room _ _ _ _ _ (facts c.before.before))
 
-code-bytes-requires : tie.Need-code_bytes-code-requires
-code-bytes-requires c κs = search rules
+code_bytes-code-requires : tie.Need-code_bytes-code-requires
+code_bytes-code-requires c κs = search rules
 
-cast-put-be : tie.Need-overflow_cast-self
-cast-put-be c = search rules
+overflow_cast-self : tie.Need-overflow_cast-self
+overflow_cast-self c = search rules
 
-put-be-requires : tie.Need-put_be-requires
-put-be-requires c κs =
+put_be-requires : tie.Need-put_be-requires
+put_be-requires c κs =
     let code = c.before.before in
-    omega (arith, code.code_bytes-code.ensures, table-room _ _ _ _ _ (facts (accepted-before code)))
+    omega (arith, code.code_bytes-code.ensures, table-room _ _ _ _ _ (facts (accepted_before code)))
 
-add_at : tie.Need-overflow_add-at
-add_at c = search rules
+overflow_add-at : tie.Need-overflow_add-at
+overflow_add-at c = search rules
 
-put-offsets-requires : tie.Need-put_offsets-requires
-put-offsets-requires c κs =
-    let code = code-before c.before.before.before in
-    omega (arith, code.code_bytes-code.ensures, table-room _ _ _ _ _ (facts (accepted-before code)))
+put_offsets-requires : tie.Need-put_offsets-requires
+put_offsets-requires c κs =
+    let code = code_before c.before.before.before in
+    omega (arith, code.code_bytes-code.ensures, table-room _ _ _ _ _ (facts (accepted_before code)))
 
-mul-put-offsets : tie.Need-overflow_mul-block_offsets
-mul-put-offsets c = search rules
+overflow_mul-block_offsets : tie.Need-overflow_mul-block_offsets
+overflow_mul-block_offsets c = search rules
 
-add-put-offsets : tie.Need-overflow_add-at-2
-add-put-offsets c = search rules
+overflow_add-at-2 : tie.Need-overflow_add-at-2
+overflow_add-at-2 c = search rules
 
-put-offsets-requires-2 : tie.Need-put_offsets-requires-2
-put-offsets-requires-2 c κs =
-    let code = code-before (blocks-before c) in
-    omega (arith, code.code_bytes-code.ensures, table-room _ _ _ _ _ (facts (accepted-before code)))
+put_offsets-requires-2 : tie.Need-put_offsets-requires-2
+put_offsets-requires-2 c κs =
+    let code = code_before (blocks_before c) in
+    omega (arith, code.code_bytes-code.ensures, table-room _ _ _ _ _ (facts (accepted_before code)))
 
-same_length : tie.Need-shape_of-out
-same_length c = search rules
+shape_of-out : tie.Need-shape_of-out
+shape_of-out c = search rules
 
-returns-2 : tie.Need-returns
-returns-2 c =
+returns : tie.Need-returns
+returns c =
     let pads = c.before.before in
     let blocks = pads.before.before.before.before in
     let code = blocks.before.before.before.before in
-    let bytes = code-before code in
-    let h = accepted-before bytes in
+    let bytes = code_before code in
+    let h = accepted_before bytes in
     let a = h.before.before.before.before.before.args in
     table-put a.grid a.self a.block_offsets.now a.pad_pixel_offsets.now a.out.now (zero h)
     bytes.table_bytes-size.ensures bytes.code_bytes-code.ensures bytes.put_lengths.ensures
@@ -98,17 +98,17 @@ pub to_bytes_spec : {M : Type 1} → statement M
 to_bytes_spec =
     tie.close
     (tie.spec
-    write-number-requires
-    returns
-    table-bytes-requires
-    put-lengths-requires
-    code-bytes-requires
-    cast-put-be
-    put-be-requires
-    add_at
-    put-offsets-requires
-    mul-put-offsets
-    add-put-offsets
-    put-offsets-requires-2
-    same_length
-    returns-2)
+    write_number-number-requires
+    returns-then-number-ne0
+    table_bytes-size-requires
+    put_lengths-requires
+    code_bytes-code-requires
+    overflow_cast-self
+    put_be-requires
+    overflow_add-at
+    put_offsets-requires
+    overflow_mul-block_offsets
+    overflow_add-at-2
+    put_offsets-requires-2
+    shape_of-out
+    returns)

@@ -7,14 +7,14 @@ use Rattle.mask.specs.Table.{lookup_record}
 use Rattle.mask.proofs.lookup.lookup_record.Statement.{statement}
 use Rattle.mask.proofs.lookup.lookup_record.Tie as tie
 
-block-index-requires : tie.Need-block_index-index-requires
-block-index-requires c κs = search rules
+block_index-index-requires : tie.Need-block_index-index-requires
+block_index-index-requires c κs = search rules
 
-bands-apart-requires : tie.Need-bands_apart-requires
-bands-apart-requires c κs = search rules
+bands_apart-requires : tie.Need-bands_apart-requires
+bands_apart-requires c κs = search rules
 
-add-pick : tie.Need-overflow_add-index
-add-pick c =
+overflow_add-index : tie.Need-overflow_add-index
+overflow_add-index c =
     rw c.block_index-index.ensures (omega (arith, index_lt _ _ _ c.requires.1, (facts _ c.requires.0).blocks-le))
 
 pick-requires : tie.Need-pick-requires
@@ -26,4 +26,4 @@ returns c = rw (c.pick.ensures, c.bands_apart.ensures, c.block_index-index.ensur
 
 pub lookup_record_spec : {M : Type 1} → statement M
 lookup_record_spec =
-    tie.close (tie.spec block-index-requires bands-apart-requires add-pick pick-requires returns)
+    tie.close (tie.spec block_index-index-requires bands_apart-requires overflow_add-index pick-requires returns)

@@ -9,18 +9,18 @@ use Rattle.mask.specs.Mask.{is_record_length}
 use Rattle.mask.proofs.parse.is_record_length.Statement.{statement}
 use Rattle.mask.proofs.parse.is_record_length.Tie as tie
 
-some-last : (b : Bool) → b ≡ some (b ∷ [])
+some_last : (b : Bool) → b ≡ some (b ∷ [])
 unfolding some
-some-last true = refl
-some-last false = refl
+some_last true = refl
+some_last false = refl
 
-returns : tie.Need-returns-then-n-eq0
+returns-then-n-eq0 : tie.Need-returns-then-n-eq0
 unfolding is_record_length some
-returns c = rw (eq-eqb _ 0 c.if-n-eq0.true)
+returns-then-n-eq0 c = rw (eq-eqb _ 0 c.if-n-eq0.true)
 
-returns-2 : tie.Need-returns
+returns : tie.Need-returns
 unfolding is_record_length some
-returns-2 c = rw (ne_eqb _ 0 c.if-n-eq0.false) (some-last _)
+returns c = rw (ne_eqb _ 0 c.if-n-eq0.false) (some_last _)
 
 pub is_record_length_spec : {M : Type 1} → statement M
-is_record_length_spec = tie.close (tie.spec returns returns-2)
+is_record_length_spec = tie.close (tie.spec returns-then-n-eq0 returns)

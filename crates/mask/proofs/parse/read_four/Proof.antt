@@ -6,11 +6,11 @@ use Rattle.mask.proofs.Fields.{read_lt}
 use Rattle.mask.proofs.parse.read_four.Statement.{statement}
 use Rattle.mask.proofs.parse.read_four.Tie as tie
 
-get-be-requires : tie.Need-get_be-requires
-get-be-requires c κs = search rules
+get_be-requires : tie.Need-get_be-requires
+get_be-requires c κs = search rules
 
-cast-result : tie.Need-overflow_cast-result
-cast-result c =
+overflow_cast-result : tie.Need-overflow_cast-result
+overflow_cast-result c =
     let table = c.args.table.now in
     let bytes : Bytes table = λ i. (c.shared_slice_known-1.given i).fits in
     record { fits = read_lt table _ 4 bytes c.get_be.ensures }
@@ -19,4 +19,4 @@ returns : tie.Need-returns
 returns c = search rules
 
 pub read_four_spec : {M : Type 1} → statement M
-read_four_spec = tie.close (tie.spec get-be-requires cast-result returns)
+read_four_spec = tie.close (tie.spec get_be-requires overflow_cast-result returns)

@@ -6,17 +6,17 @@ use native.Mathlib.Nat.{le-div_iff_mul-le}
 use Rattle.moves.proofs.order.columns_together.Statement.{statement}
 use Rattle.moves.proofs.order.columns_together.Tie as tie
 
-returns : tie.Need-returns-then-by-width
-returns c = search rules
+returns-then-by-width : tie.Need-returns-then-by-width
+returns-then-by-width c = search rules
 
-returns-2 : tie.Need-returns-then-by-gt-CACHE_LINE
-returns-2 c = search rules
+returns-then-by-gt-CACHE_LINE : tie.Need-returns-then-by-gt-CACHE_LINE
+returns-then-by-gt-CACHE_LINE c = search rules
 
-div-result : tie.Need-nonzero_div-result
-div-result c = search rules
+nonzero_div-result : tie.Need-nonzero_div-result
+nonzero_div-result c = search rules
 
-returns-3 : tie.Need-returns
-returns-3 c = (le-div_iff_mul-le c.requires.0).1 (omega arith)
+returns : tie.Need-returns
+returns c = (le-div_iff_mul-le c.requires.0).1 (omega arith)
 
 pub columns_together_spec : {M : Type 1} → statement M
-columns_together_spec = tie.close (tie.spec returns returns-2 div-result returns-3)
+columns_together_spec = tie.close (tie.spec returns-then-by-width returns-then-by-gt-CACHE_LINE nonzero_div-result returns)

@@ -14,14 +14,14 @@ rounded_up n v hn hv =
     let e : n - 1 + v ≡ n + (v - 1) = omega arith in
     omega (arith, add-div_right (n - 1) hv, ap (λ (x : ℕ). x / v) e)
 
-sub-t3 : tie.Need-overflow_sub-result
-sub-t3 c = search rules
+overflow_sub-result : tie.Need-overflow_sub-result
+overflow_sub-result c = search rules
 
-div-t4 : tie.Need-nonzero_div-result
-div-t4 c = search rules
+nonzero_div-result : tie.Need-nonzero_div-result
+nonzero_div-result c = search rules
 
-add-t5 : tie.Need-overflow_add-result
-add-t5 c = omega (arith, div-le_self (c.args.length - 1) c.args.most)
+overflow_add-result : tie.Need-overflow_add-result
+overflow_add-result c = omega (arith, div-le_self (c.args.length - 1) c.args.most)
 
 returns : tie.Need-returns
 returns c =
@@ -30,4 +30,4 @@ returns c =
     c.requires.0 c.requires.1)
 
 pub cut_into_spec : {M : Type 1} → statement M
-cut_into_spec = tie.close (tie.spec sub-t3 div-t4 add-t5 returns)
+cut_into_spec = tie.close (tie.spec overflow_sub-result nonzero_div-result overflow_add-result returns)

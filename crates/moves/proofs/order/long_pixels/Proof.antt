@@ -6,14 +6,14 @@ use Rattle.common.proofs.Tests.{true_false}
 use Rattle.moves.proofs.order.long_pixels.Statement.{statement}
 use Rattle.moves.proofs.order.long_pixels.Tie as tie
 
-returns : tie.Need-returns-then-by-le-CACHE_LINE
-returns c e = true_false (sym e)
+returns-then-by-le-CACHE_LINE : tie.Need-returns-then-by-le-CACHE_LINE
+returns-then-by-le-CACHE_LINE c e = true_false (sym e)
 
-returns-2 : tie.Need-returns-then-width-ne0
-returns-2 c e = true_false (sym e)
+returns-then-width-ne0 : tie.Need-returns-then-width-ne0
+returns-then-width-ne0 c e = true_false (sym e)
 
-returns-3 : tie.Need-returns
-returns-3 c e = (eqb-true _ _ e, c.if-width-ne0.false)
+returns : tie.Need-returns
+returns c e = (eqb-true _ _ e, c.if-width-ne0.false)
 
 pub long_pixels_spec : {M : Type 1} → statement M
-long_pixels_spec = tie.close (tie.spec returns returns-2 returns-3)
+long_pixels_spec = tie.close (tie.spec returns-then-by-le-CACHE_LINE returns-then-width-ne0 returns)

@@ -38,22 +38,22 @@ band_in s b e = rw e (band_lt _ _ s.requires.1.0.bands_in _ (omega (arith, s.req
 abbrev start : tie.After-band_at-b → tie.Start
 start c = c.before.before.before.before.before.before
 
-band-at-requires : tie.Need-band_at-b-requires
-band-at-requires c κs = search rules
+band_at-b-requires : tie.Need-band_at-b-requires
+band_at-b-requires c κs = search rules
 
-at-requires : tie.Need-at-at-requires
-at-requires c κs =
+at-at-requires : tie.Need-at-at-requires
+at-at-requires c κs =
     let s = start c in
     at-fits (placed s) s.requires.1.1.1 _ (band_in s _ c.band_at-b.ensures)
 
-at-requires-2 : tie.Need-at-to-requires
-at-requires-2 c κs = to_fits (placed (start c.before)) (omega arith)
+at-to-requires : tie.Need-at-to-requires
+at-to-requires c κs = to_fits (placed (start c.before)) (omega arith)
 
-cast-read-rows : tie.Need-overflow_cast-layout
-cast-read-rows c = search rules
+overflow_cast-layout : tie.Need-overflow_cast-layout
+overflow_cast-layout c = search rules
 
-read-rows-requires : tie.Need-read_rows-requires
-read-rows-requires c κs =
+read_rows-requires : tie.Need-read_rows-requires
+read_rows-requires c κs =
     let to = c.before.before in
     let b = to.before.before in
     let s = start b in
@@ -62,8 +62,8 @@ read-rows-requires c κs =
       (m.movable, (s.requires.1.1.0.in_rows.some, rows-room (placed s) to.at-to.ensures)),
     )
 
-same_length : tie.Need-shape_of-out
-same_length c = search rules
+shape_of-out : tie.Need-shape_of-out
+shape_of-out c = search rules
 
 returns : tie.Need-returns
 returns c =
@@ -76,4 +76,4 @@ returns c =
 pub read_band_spec : {M : Type 1} → statement M
 read_band_spec =
     tie.close
-    (tie.spec band-at-requires at-requires at-requires-2 cast-read-rows read-rows-requires same_length returns)
+    (tie.spec band_at-b-requires at-at-requires at-to-requires overflow_cast-layout read_rows-requires shape_of-out returns)

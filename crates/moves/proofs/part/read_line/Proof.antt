@@ -39,26 +39,26 @@ band_in s b e = rw e (band_lt _ _ s.requires.1.0.bands_in _ (omega (arith, s.req
 abbrev start : tie.After-band_at-b → tie.Start
 start c = c.before.before.before.before.before.before
 
-band-at-requires : tie.Need-band_at-b-requires
-band-at-requires c κs = search rules
+band_at-b-requires : tie.Need-band_at-b-requires
+band_at-b-requires c κs = search rules
 
-at-requires : tie.Need-at-to-requires
-at-requires c κs = to_fits (placed (start c)) (omega arith)
+at-to-requires : tie.Need-at-to-requires
+at-to-requires c κs = to_fits (placed (start c)) (omega arith)
 
-add_r : tie.Need-overflow_add-r
-add_r c =
+overflow_add-r : tie.Need-overflow_add-r
+overflow_add-r c =
     let s = start c.before.before in
     let t = s.requires.1.0 in
     omega (arith, s.requires.1.1.0.in_rows, t.in_rows, (strides_fit _ t.accepted).rows-le)
 
-add-c : tie.Need-overflow_add-c
-add-c c =
+overflow_add-c : tie.Need-overflow_add-c
+overflow_add-c c =
     let s = start c.before.before.before in
     let t = s.requires.1.0 in
     omega (arith, s.requires.1.1.0.in_columns, t.in_columns, (strides_fit _ t.accepted).columns-le)
 
-read-row-requires : tie.Need-read_row-requires
-read-row-requires c κs =
+read_row-requires : tie.Need-read_row-requires
+read_row-requires c κs =
     let to = c.before.before.before in
     let s = start to.before in
     let t = s.requires.1.0 in
@@ -71,8 +71,8 @@ read-row-requires c κs =
       ),
     )
 
-same_length : tie.Need-shape_of-out
-same_length c = search rules
+shape_of-out : tie.Need-shape_of-out
+shape_of-out c = search rules
 
 returns : tie.Need-returns
 returns c =
@@ -84,4 +84,4 @@ returns c =
 pub read_line_spec : {M : Type 1} → statement M
 read_line_spec =
     tie.close
-    (tie.spec band-at-requires at-requires add_r add-c read-row-requires same_length returns)
+    (tie.spec band_at-b-requires at-to-requires overflow_add-r overflow_add-c read_row-requires shape_of-out returns)

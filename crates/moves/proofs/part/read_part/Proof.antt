@@ -19,32 +19,32 @@ use Rattle.moves.proofs.Orders.{area_within, area_follows, area-moves, order_lis
 use Rattle.moves.proofs.part.read_part.Statement.{statement}
 use Rattle.moves.proofs.part.read_part.Tie as tie
 
-abbrev invariant-loop : tie.invariant-loop-k
-invariant-loop src layout all bands rows columns out₀ count together order sides area₀ k₀ k-end out area k =
+abbrev invariant-loop-k : tie.invariant-loop-k
+invariant-loop-k src layout all bands rows columns out₀ count together order sides area₀ k₀ k-end out area k =
     (k ≤ k-end) × Puts (answer_target layout src sides.part (bands_of all bands) sides.rows sides.columns)
     (AreasBefore order k) out₀ out
     × (k < area_count order → area ≡ area_of order k)
 
-abbrev decreases-loop : tie.decreases-loop-k
-decreases-loop src layout all bands rows columns out₀ count together order sides area₀ k₀ k-end out area k = k-end - k
+abbrev decreases-loop-k : tie.decreases-loop-k
+decreases-loop-k src layout all bands rows columns out₀ count together order sides area₀ k₀ k-end out area k = k-end - k
 
 -- before the loop, in a turn, and the function's start
-abbrev numbers : tie.In-loop-k invariant-loop decreases-loop → tie.After-both_sides-sides invariant-loop decreases-loop
+abbrev numbers : tie.In-loop-k invariant-loop-k decreases-loop-k → tie.After-both_sides-sides invariant-loop-k decreases-loop-k
 numbers c = c.before.before.before.before
 
 -- the area of a turn
-in_turn : (c : tie.In-loop-k invariant-loop decreases-loop) → c.loop-k.k < area_count (numbers c).choose-order.result
+in_turn : (c : tie.In-loop-k invariant-loop-k decreases-loop-k) → c.loop-k.k < area_count (numbers c).choose-order.result
 in_turn c = omega (arith, c.loop-k-test.true, c.areas-k-end.ensures)
 
-area_is : (c : tie.In-loop-k invariant-loop decreases-loop)
+area_is : (c : tie.In-loop-k invariant-loop-k decreases-loop-k)
     → c.loop-k.area ≡ area_of (numbers c).choose-order.result c.loop-k.k
 area_is c = c.loop-k.invariant.2 (in_turn c)
 
-abbrev start : tie.After-both_sides-sides invariant-loop decreases-loop → tie.Start invariant-loop decreases-loop
+abbrev start : tie.After-both_sides-sides invariant-loop-k decreases-loop-k → tie.Start invariant-loop-k decreases-loop-k
 start c = c.before.before.before.before.before.before.before.before
 
 -- the order, told by the part that the code has
-order_is : (c : tie.After-both_sides-sides invariant-loop decreases-loop)
+order_is : (c : tie.After-both_sides-sides invariant-loop-k decreases-loop-k)
     → let a = (start c).args in let p = c.both_sides-sides.result.part in
     Chosen a.layout c.listed_together-together.result
     (band_count a.layout.bands (bands_of a.all a.bands.now)) p.rows p.columns
@@ -53,36 +53,36 @@ order_is c =
     let e = c.band_count-count.ensures in
     own_order c.both_sides-sides.ensures _ e c.choose-order.ensures
 
-in_out : (s : tie.Start invariant-loop decreases-loop) → length s.args.out.now < 2 ^ 64
+in_out : (s : tie.Start invariant-loop-k decreases-loop-k) → length s.args.out.now < 2 ^ 64
 in_out s = omega arith
 
 -- some band is asked for
-some : (c : tie.Else-count-eq0 invariant-loop decreases-loop)
+some : (c : tie.Else-count-eq0 invariant-loop-k decreases-loop-k)
     → let a = c.args in
     0 < band_count a.layout.bands (bands_of a.all a.bands.now)
 some c = omega (arith, c.band_count-count.ensures, c.if-count-eq0.false)
 
-band-count-requires : tie.Need-band_count-count-requires invariant-loop decreases-loop
-band-count-requires c κs = search rules
+band_count-count-requires : tie.Need-band_count-count-requires invariant-loop-k decreases-loop-k
+band_count-count-requires c κs = search rules
 
-returns : tie.Need-returns-then-count-eq0 invariant-loop decreases-loop
-returns c =
+returns-then-count-eq0 : tie.Need-returns-then-count-eq0 invariant-loop-k decreases-loop-k
+returns-then-count-eq0 c =
     let t = c.requires in
     let e = c.band_count-count.ensures in
     answer-done _ _ _ _ _ _ (sample-size _ t.accepted).some t.to_rows t.to_columns
     (puts_none _ {some = λ k i j. ⊥} _ (λ k i j h. h))
     (λ k i j a. omega (arith, a.in_b, c.if-count-eq0.true))
 
-listed-together-requires : tie.Need-listed_together-together-requires invariant-loop decreases-loop
-listed-together-requires c κs = search rules
+listed_together-together-requires : tie.Need-listed_together-together-requires invariant-loop-k decreases-loop-k
+listed_together-together-requires c κs = search rules
 
-choose-requires : tie.Need-choose-order-requires invariant-loop decreases-loop
-choose-requires c κs =
+choose-order-requires : tie.Need-choose-order-requires invariant-loop-k decreases-loop-k
+choose-order-requires c κs =
     let t = c.requires in
     (t.accepted, (omega (arith, c.if-count-eq0.false), t.some-rows, t.some-columns))
 
-both-sides-requires : tie.Need-both_sides-sides-requires invariant-loop decreases-loop
-both-sides-requires c κs =
+both_sides-sides-requires : tie.Need-both_sides-sides-requires invariant-loop-k decreases-loop-k
+both_sides-sides-requires c κs =
     let s = c.before.before.before.before.before.before.before in
     let t = s.requires in
     let fit = planes-fit _ _ _ _ _ _ _ t (in_out s) (some c.before.before) in (
@@ -97,25 +97,25 @@ both-sides-requires c κs =
       ),
     )
 
-first-area-requires : tie.Need-first_area-area-requires invariant-loop decreases-loop
-first-area-requires c κs =
+first_area-area-requires : tie.Need-first_area-area-requires invariant-loop-k decreases-loop-k
+first_area-area-requires c κs =
     let t = (start c).requires in
     let chosen = c.choose-order.ensures in
     (omega (arith, t.some-rows, chosen.rows_are), omega (arith, t.some-columns, chosen.columns_are))
 
-areas-requires : tie.Need-areas-k-end-requires invariant-loop decreases-loop
-areas-requires c κs =
+areas-k-end-requires : tie.Need-areas-k-end-requires invariant-loop-k decreases-loop-k
+areas-k-end-requires c κs =
     let s = start c.before in
     let g = samples-fit _ _ _ _ _ _ _ s.requires (in_out s) in
     areas_fit c.choose-order.ensures (rw c.band_count-count.ensures g)
     (omega (arith, c.if-count-eq0.false))
 
-loop-holds : tie.Need-loop-k-init invariant-loop decreases-loop
-loop-holds c =
+loop-k-init : tie.Need-loop-k-init invariant-loop-k decreases-loop-k
+loop-k-init c =
     (omega arith, no_area _ c.choose-order.result _, λ h. c.first_area-area.ensures)
 
-read-area-requires : tie.Need-read_area-requires invariant-loop decreases-loop
-read-area-requires c κs =
+read_area-requires : tie.Need-read_area-requires invariant-loop-k decreases-loop-k
+read_area-requires c κs =
     let turn = c.before in
     let n = numbers turn in
     let s = start n in
@@ -126,18 +126,18 @@ read-area-requires c κs =
     let t = own-readable n.both_sides-sides.ensures _ _ s.requires turn.loop-k.invariant.1.size in
     (own-sides _ n.both_sides-sides.ensures, (t, (moves, listed)))
 
-next-area-requires : tie.Need-next_area-area-requires invariant-loop decreases-loop
-next-area-requires c κs =
+next_area-area-requires : tie.Need-next_area-area-requires invariant-loop-k decreases-loop-k
+next_area-area-requires c κs =
     let turn = c.before.before.before.before in area_within (order_is (numbers turn)) _ (in_turn turn) (area_is turn)
 
-add-k : tie.Need-overflow_step-k invariant-loop decreases-loop
-add-k c = omega arith
+overflow_step-k : tie.Need-overflow_step-k invariant-loop-k decreases-loop-k
+overflow_step-k c = omega arith
 
-loop-less : tie.Need-loop-k-smaller invariant-loop decreases-loop
-loop-less c = omega arith
+loop-k-smaller : tie.Need-loop-k-smaller invariant-loop-k decreases-loop-k
+loop-k-smaller c = omega arith
 
-loop-again : tie.Need-loop-k-preserved invariant-loop decreases-loop
-loop-again c =
+loop-k-preserved : tie.Need-loop-k-preserved invariant-loop-k decreases-loop-k
+loop-k-preserved c =
     let turn = c.before.before.before.before.before in
     let n = numbers turn in
     let h = in_turn turn in
@@ -145,11 +145,11 @@ loop-again c =
     let puts = area_turn _ (order_is n) _ (area_is turn) turn.loop-k.invariant.1 read in
     (omega (arith, turn.loop-k-test.true), puts, area_follows (order_is n) _ h (area_is turn) c.next_area-area.ensures)
 
-same_length : tie.Need-shape_of-out invariant-loop decreases-loop
-same_length c = c.loop-k.invariant.1.size
+shape_of-out : tie.Need-shape_of-out invariant-loop-k decreases-loop-k
+shape_of-out c = c.loop-k.invariant.1.size
 
-returns-2 : tie.Need-returns invariant-loop decreases-loop
-returns-2 c =
+returns : tie.Need-returns invariant-loop-k decreases-loop-k
+returns c =
     let n = c.before.before.before.before in
     let t = (start n).requires in
     let e : c.loop-k.k ≡ area_count n.choose-order.result
@@ -160,5 +160,5 @@ returns-2 c =
 pub read_part_spec : {M : Type 1} → statement M
 read_part_spec =
     tie.close
-    (tie.spec invariant-loop decreases-loop band-count-requires returns listed-together-requires choose-requires both-sides-requires
-    first-area-requires areas-requires loop-holds read-area-requires next-area-requires add-k loop-less loop-again same_length returns-2)
+    (tie.spec invariant-loop-k decreases-loop-k band_count-count-requires returns-then-count-eq0 listed_together-together-requires choose-order-requires both_sides-sides-requires
+    first_area-area-requires areas-k-end-requires loop-k-init read_area-requires next_area-area-requires overflow_step-k loop-k-smaller loop-k-preserved shape_of-out returns)

@@ -35,16 +35,16 @@ placed s =
 abbrev start : tie.After-at-at → tie.Start
 start c = c.before.before.before.before.before.before
 
-at-requires : tie.Need-at-at-requires
-at-requires c κs =
+at-at-requires : tie.Need-at-at-requires
+at-at-requires c κs =
     let s = c.before.before.before.before.before in
     at-fits (placed s) s.requires.1.1.1.0 0 s.requires.1.0.accepted.some-bands
 
-at-requires-2 : tie.Need-at-to-requires
-at-requires-2 c κs = to_fits (placed (start c)) (omega arith)
+at-to-requires : tie.Need-at-to-requires
+at-to-requires c κs = to_fits (placed (start c)) (omega arith)
 
-gather-listed-requires : tie.Need-gather_listed-requires
-gather-listed-requires c κs =
+gather_listed-requires : tie.Need-gather_listed-requires
+gather_listed-requires c κs =
     let to = c.before.before in
     let at = to.before in
     let s = start at in
@@ -60,8 +60,8 @@ gather-listed-requires c κs =
       room = bands-room (placed s) to.at-to.ensures;
     }
 
-same_length : tie.Need-shape_of-out
-same_length c = search rules
+shape_of-out : tie.Need-shape_of-out
+shape_of-out c = search rules
 
 returns : tie.Need-returns
 returns c =
@@ -76,4 +76,4 @@ returns c =
 
 pub read_pixels_spec : {M : Type 1} → statement M
 read_pixels_spec =
-    tie.close (tie.spec at-requires at-requires-2 gather-listed-requires same_length returns)
+    tie.close (tie.spec at-at-requires at-to-requires gather_listed-requires shape_of-out returns)

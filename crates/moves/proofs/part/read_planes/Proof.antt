@@ -5,15 +5,15 @@ use Rattle.moves.proofs.part.read_planes.Statement.{statement}
 use Rattle.moves.proofs.part.read_planes.Tie as tie
 use Rattle.moves.proofs.Whole.{whole-readable, whole-done}
 
-whole-part-requires : tie.Need-whole_part-part-requires
-whole-part-requires c κs = search rules
+whole_part-part-requires : tie.Need-whole_part-part-requires
+whole_part-part-requires c κs = search rules
 
-read-part-requires : tie.Need-read_part-requires
-read-part-requires c κs =
+read_part-requires : tie.Need-read_part-requires
+read_part-requires c κs =
     rw c.whole_part-part.ensures (whole-readable _ _ _ _ c.requires)
 
-same_length : tie.Need-shape_of-out
-same_length c = search rules
+shape_of-out : tie.Need-shape_of-out
+shape_of-out c = search rules
 
 returns : tie.Need-returns
 returns c =
@@ -21,4 +21,4 @@ returns c =
     (rw c.whole_part-part.ensures at c.read_part.ensures)
 
 pub read_planes_spec : {M : Type 1} → statement M
-read_planes_spec = tie.close (tie.spec whole-part-requires read-part-requires same_length returns)
+read_planes_spec = tie.close (tie.spec whole_part-part-requires read_part-requires shape_of-out returns)

@@ -19,33 +19,33 @@ use Rattle.moves.proofs.StorePieces.{data_end, row_fits, run_put}
 use Rattle.moves.proofs.runs.put_row.Statement.{statement}
 use Rattle.moves.proofs.runs.put_row.Tie as tie
 
-abbrev invariant-loop : tie.invariant-loop-done
-invariant-loop image₀ layout b r c count dat from width size step done₀ image done =
+abbrev invariant-loop-done : tie.invariant-loop-done
+invariant-loop-done image₀ layout b r c count dat from width size step done₀ image done =
     (done ≤ count) × Puts (image_target layout (data_at layout dat)) (InRow b r c done) image₀ image
 
-abbrev decreases-loop : tie.decreases-loop-done
-decreases-loop image₀ layout b r c count dat from width size step done₀ image done = count - done
+abbrev decreases-loop-done : tie.decreases-loop-done
+decreases-loop-done image₀ layout b r c count dat from width size step done₀ image done = count - done
 
 -- before the loop, in a turn, and the function's start
-abbrev numbers : tie.In-loop-done invariant-loop decreases-loop → tie.After-strides-step invariant-loop decreases-loop
+abbrev numbers : tie.In-loop-done invariant-loop-done decreases-loop-done → tie.After-strides-step invariant-loop-done decreases-loop-done
 numbers c = c.before.before
 
-abbrev start : tie.After-strides-step invariant-loop decreases-loop → tie.Start invariant-loop decreases-loop
+abbrev start : tie.After-strides-step invariant-loop-done decreases-loop-done → tie.Start invariant-loop-done decreases-loop-done
 start c = c.before.before.before.before.before
 
-step_is : (c : tie.After-strides-step invariant-loop decreases-loop) → let l =
+step_is : (c : tie.After-strides-step invariant-loop-done decreases-loop-done) → let l =
     (start c).args.layout in c.strides-step.result.column ≡ column_stride l.mode l
 step_is c = ap (λ (s : Strides). s.column) c.strides-step.ensures
 
 -- the sample that a turn begins with
-here : (c : tie.In-loop-done invariant-loop decreases-loop)
+here : (c : tie.In-loop-done invariant-loop-done decreases-loop-done)
     → let a = (start (numbers c)).args in Sample a.layout a.b a.r (a.c + c.loop-done.done)
 here c =
     let p = (start (numbers c)).requires.1 in
     record { in_b = p.0.in_b; in_r = p.0.in_r; in_c = omega (arith, p.1.0, c.loop-done-test.true) }
 
 -- where the samples that it puts are
-in_dat : (c : tie.After-run_from-run invariant-loop decreases-loop)
+in_dat : (c : tie.After-run_from-run invariant-loop-done decreases-loop-done)
     → let n = numbers c.before in
     let a = (start n).args in
     let size = n.sample_bytes-size.result in
@@ -59,7 +59,7 @@ in_dat c =
     (omega (arith, c.run_from-run.ensures.count-le, c.loop-done-test.true)) (omega (arith, s.requires.1.1.1))
 
 -- they have no further bits
-fit_in : (c : tie.After-run_from-run invariant-loop decreases-loop)
+fit_in : (c : tie.After-run_from-run invariant-loop-done decreases-loop-done)
     → let n = numbers c.before in
     let a = (start n).args in
     let size = n.sample_bytes-size.result in
@@ -77,40 +77,40 @@ fit_in c =
     n.sample_bytes-size.ensures
 
 -- the turn at whose end the loop goes on
-abbrev turn : tie.After-struct_known-in-loop-done-1 invariant-loop decreases-loop → tie.After-run_from-run invariant-loop decreases-loop
+abbrev turn : tie.After-struct_known-in-loop-done-1 invariant-loop-done decreases-loop-done → tie.After-run_from-run invariant-loop-done decreases-loop-done
 turn c = c.before.before.before.before.before
 
-cast-width : tie.Need-overflow_cast-width invariant-loop decreases-loop
-cast-width c = search rules
+overflow_cast-width : tie.Need-overflow_cast-width invariant-loop-done decreases-loop-done
+overflow_cast-width c = search rules
 
-sample-bytes-requires : tie.Need-sample_bytes-size-requires invariant-loop decreases-loop
-sample-bytes-requires c κs = c.requires.0.accepted
+sample_bytes-size-requires : tie.Need-sample_bytes-size-requires invariant-loop-done decreases-loop-done
+sample_bytes-size-requires c κs = c.requires.0.accepted
 
-strides-requires : tie.Need-strides-step-requires invariant-loop decreases-loop
-strides-requires c κs = c.requires.0.accepted
+strides-step-requires : tie.Need-strides-step-requires invariant-loop-done decreases-loop-done
+strides-step-requires c κs = c.requires.0.accepted
 
-loop-holds : tie.Need-loop-done-init invariant-loop decreases-loop
-loop-holds c = (omega arith, puts_none _ _ (λ b r c h. omega (arith, h)))
+loop-done-init : tie.Need-loop-done-init invariant-loop-done decreases-loop-done
+loop-done-init c = (omega arith, puts_none _ _ (λ b r c h. omega (arith, h)))
 
-add-run-from : tie.Need-overflow_add-c invariant-loop decreases-loop
-add-run-from c = omega (arith, (here c).in_c, (strides_fit _ (start (numbers c)).requires.0.accepted).columns-le)
+overflow_add-c : tie.Need-overflow_add-c invariant-loop-done decreases-loop-done
+overflow_add-c c = omega (arith, (here c).in_c, (strides_fit _ (start (numbers c)).requires.0.accepted).columns-le)
 
-sub-run-from : tie.Need-overflow_sub-count invariant-loop decreases-loop
-sub-run-from c = omega arith
+overflow_sub-count : tie.Need-overflow_sub-count invariant-loop-done decreases-loop-done
+overflow_sub-count c = omega arith
 
-run-from-requires : tie.Need-run_from-run-requires invariant-loop decreases-loop
-run-from-requires c κs =
+run_from-run-requires : tie.Need-run_from-run-requires invariant-loop-done decreases-loop-done
+run_from-run-requires c κs =
     let p = (start (numbers c)).requires in
     (p.0.accepted, (here c, (omega (arith, c.loop-done-test.true), omega (arith, p.1.1.0, c.loop-done-test.true))))
 
-mul-write-samples : tie.Need-overflow_mul-done invariant-loop decreases-loop
-mul-write-samples c = omega (arith, in_dat c)
+overflow_mul-done : tie.Need-overflow_mul-done invariant-loop-done decreases-loop-done
+overflow_mul-done c = omega (arith, in_dat c)
 
-add-write-samples : tie.Need-overflow_add-from invariant-loop decreases-loop
-add-write-samples c = omega (arith, in_dat c)
+overflow_add-from : tie.Need-overflow_add-from invariant-loop-done decreases-loop-done
+overflow_add-from c = omega (arith, in_dat c)
 
-write-samples-requires : tie.Need-write_samples-requires invariant-loop decreases-loop
-write-samples-requires c κs =
+write_samples-requires : tie.Need-write_samples-requires invariant-loop-done decreases-loop-done
+write_samples-requires c κs =
     let n = numbers c.before.before in
     let w = (start n).requires.0 in
     let h = c.loop-done in
@@ -119,14 +119,14 @@ write-samples-requires c κs =
     let q = can_move _ _ _ _ _ _ n.sample_bytes-size.ensures (step_is n) (sample-size _ w.accepted) m in
     ((q.0.0, q.0.1, in_dat c.before), (q.1, ((q.2, q.3), fit_in c.before)))
 
-add_done : tie.Need-overflow_add-done invariant-loop decreases-loop
-add_done c = omega (arith, (turn c).run_from-run.ensures.count-le, (turn c).loop-done-test.true)
+overflow_add-done : tie.Need-overflow_add-done invariant-loop-done decreases-loop-done
+overflow_add-done c = omega (arith, (turn c).run_from-run.ensures.count-le, (turn c).loop-done-test.true)
 
-loop-less : tie.Need-loop-done-smaller invariant-loop decreases-loop
-loop-less c = omega (arith, (turn c).run_from-run.ensures.some, (turn c).loop-done-test.true)
+loop-done-smaller : tie.Need-loop-done-smaller invariant-loop-done decreases-loop-done
+loop-done-smaller c = omega (arith, (turn c).run_from-run.ensures.some, (turn c).loop-done-test.true)
 
-loop-again : tie.Need-loop-done-preserved invariant-loop decreases-loop
-loop-again c =
+loop-done-preserved : tie.Need-loop-done-preserved invariant-loop-done decreases-loop-done
+loop-done-preserved c =
     let run = turn c in
     let n = numbers run.before in
     let s = start n in
@@ -140,10 +140,10 @@ loop-again c =
           c.write_samples.ensures),
     )
 
-same_length : tie.Need-shape_of-image invariant-loop decreases-loop
-same_length c = c.loop-done.invariant.1.size
+shape_of-image : tie.Need-shape_of-image invariant-loop-done decreases-loop-done
+shape_of-image c = c.loop-done.invariant.1.size
 
-returns : tie.Need-returns invariant-loop decreases-loop
+returns : tie.Need-returns invariant-loop-done decreases-loop-done
 returns c =
     let e : c.loop-done.done ≡ (start c.before.before).args.count = omega arith in
     rw e at c.loop-done.invariant.1
@@ -151,6 +151,6 @@ returns c =
 pub put_row_spec : {M : Type 1} → statement M
 put_row_spec =
     tie.close
-    (tie.spec invariant-loop decreases-loop cast-width sample-bytes-requires strides-requires loop-holds add-run-from sub-run-from
-    run-from-requires mul-write-samples add-write-samples write-samples-requires add_done loop-less loop-again
-    same_length returns)
+    (tie.spec invariant-loop-done decreases-loop-done overflow_cast-width sample_bytes-size-requires strides-step-requires loop-done-init overflow_add-c overflow_sub-count
+    run_from-run-requires overflow_mul-done overflow_add-from write_samples-requires overflow_add-done loop-done-smaller loop-done-preserved
+    shape_of-image returns)

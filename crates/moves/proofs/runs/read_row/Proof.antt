@@ -19,34 +19,34 @@ use Rattle.moves.proofs.Pieces.{run_number, in_line, can_move}
 use Rattle.moves.proofs.runs.read_row.Statement.{statement}
 use Rattle.moves.proofs.runs.read_row.Tie as tie
 
-abbrev invariant-loop : tie.invariant-loop-done
-invariant-loop src layout b r c count out₀ to width size step done₀ out done =
+abbrev invariant-loop-done : tie.invariant-loop-done
+invariant-loop-done src layout b r c count out₀ to width size step done₀ out done =
     (done ≤ count) × (length out ≡ length out₀)
     × (out ≡ over out₀ to (values (λ j. sample_at layout src b r (c + j)) size done))
 
-abbrev decreases-loop : tie.decreases-loop-done
-decreases-loop src layout b r c count out₀ to width size step done₀ out done = count - done
+abbrev decreases-loop-done : tie.decreases-loop-done
+decreases-loop-done src layout b r c count out₀ to width size step done₀ out done = count - done
 
 -- before the loop, in a turn, and the function's start
-abbrev numbers : tie.In-loop-done invariant-loop decreases-loop → tie.After-strides-step invariant-loop decreases-loop
+abbrev numbers : tie.In-loop-done invariant-loop-done decreases-loop-done → tie.After-strides-step invariant-loop-done decreases-loop-done
 numbers c = c.before.before
 
-abbrev start : tie.After-strides-step invariant-loop decreases-loop → tie.Start invariant-loop decreases-loop
+abbrev start : tie.After-strides-step invariant-loop-done decreases-loop-done → tie.Start invariant-loop-done decreases-loop-done
 start c = c.before.before.before.before.before
 
-step_is : (c : tie.After-strides-step invariant-loop decreases-loop) → let l =
+step_is : (c : tie.After-strides-step invariant-loop-done decreases-loop-done) → let l =
     (start c).args.layout in c.strides-step.result.column ≡ column_stride l.mode l
 step_is c = ap (λ (s : Strides). s.column) c.strides-step.ensures
 
 -- the sample that a turn begins with
-here : (c : tie.In-loop-done invariant-loop decreases-loop)
+here : (c : tie.In-loop-done invariant-loop-done decreases-loop-done)
     → let a = (start (numbers c)).args in Sample a.layout a.b a.r (a.c + c.loop-done.done)
 here c =
     let p = (start (numbers c)).requires in
     record { in_b = p.1.0.in_b; in_r = p.1.0.in_r; in_c = omega (arith, p.1.1.0.0, c.loop-done-test.true) }
 
 -- where the samples that it reads go
-in_out : (c : tie.After-run_from-run invariant-loop decreases-loop)
+in_out : (c : tie.After-run_from-run invariant-loop-done decreases-loop-done)
     → let n = numbers c.before in
     let a = (start n).args in
     let size = n.sample_bytes-size.result in
@@ -57,54 +57,54 @@ in_out c =
     (omega (arith, c.run_from-run.ensures.count-le, c.loop-done-test.true)) (start n).requires.1.1.1
 
 -- the turn at whose end the loop goes on
-abbrev turn : tie.After-struct_known-in-loop-done-1 invariant-loop decreases-loop → tie.After-run_from-run invariant-loop decreases-loop
+abbrev turn : tie.After-struct_known-in-loop-done-1 invariant-loop-done decreases-loop-done → tie.After-run_from-run invariant-loop-done decreases-loop-done
 turn c = c.before.before.before.before.before
 
-cast-width : tie.Need-overflow_cast-width invariant-loop decreases-loop
-cast-width c = search rules
+overflow_cast-width : tie.Need-overflow_cast-width invariant-loop-done decreases-loop-done
+overflow_cast-width c = search rules
 
-sample-bytes-requires : tie.Need-sample_bytes-size-requires invariant-loop decreases-loop
-sample-bytes-requires c κs = c.requires.0
+sample_bytes-size-requires : tie.Need-sample_bytes-size-requires invariant-loop-done decreases-loop-done
+sample_bytes-size-requires c κs = c.requires.0
 
-strides-requires : tie.Need-strides-step-requires invariant-loop decreases-loop
-strides-requires c κs = c.requires.0
+strides-step-requires : tie.Need-strides-step-requires invariant-loop-done decreases-loop-done
+strides-step-requires c κs = c.requires.0
 
-loop-holds : tie.Need-loop-done-init invariant-loop decreases-loop
-loop-holds c = (omega arith, refl, values-none _ _ _ _)
+loop-done-init : tie.Need-loop-done-init invariant-loop-done decreases-loop-done
+loop-done-init c = (omega arith, refl, values-none _ _ _ _)
 
-add-run-from : tie.Need-overflow_add-c invariant-loop decreases-loop
-add-run-from c = omega (arith, (here c).in_c, (strides_fit _ (start (numbers c)).requires.0).columns-le)
+overflow_add-c : tie.Need-overflow_add-c invariant-loop-done decreases-loop-done
+overflow_add-c c = omega (arith, (here c).in_c, (strides_fit _ (start (numbers c)).requires.0).columns-le)
 
-sub-run-from : tie.Need-overflow_sub-count invariant-loop decreases-loop
-sub-run-from c = omega arith
+overflow_sub-count : tie.Need-overflow_sub-count invariant-loop-done decreases-loop-done
+overflow_sub-count c = omega arith
 
-run-from-requires : tie.Need-run_from-run-requires invariant-loop decreases-loop
-run-from-requires c κs =
+run_from-run-requires : tie.Need-run_from-run-requires invariant-loop-done decreases-loop-done
+run_from-run-requires c κs =
     let p = (start (numbers c)).requires in
     (p.0, (here c, (omega (arith, c.loop-done-test.true), omega (arith, p.1.1.0.0, c.loop-done-test.true))))
 
-mul-read-samples : tie.Need-overflow_mul-done invariant-loop decreases-loop
-mul-read-samples c = omega (arith, in_out c.before)
+overflow_mul-done : tie.Need-overflow_mul-done invariant-loop-done decreases-loop-done
+overflow_mul-done c = omega (arith, in_out c.before)
 
-add-read-samples : tie.Need-overflow_add-to invariant-loop decreases-loop
-add-read-samples c = omega (arith, in_out c.before)
+overflow_add-to : tie.Need-overflow_add-to invariant-loop-done decreases-loop-done
+overflow_add-to c = omega (arith, in_out c.before)
 
-read-samples-requires : tie.Need-read_samples-requires invariant-loop decreases-loop
-read-samples-requires c κs =
+read_samples-requires : tie.Need-read_samples-requires invariant-loop-done decreases-loop-done
+read_samples-requires c κs =
     let n = numbers c.before.before in
     let p = (start n).requires in
     let m = c.run_from-run.ensures.movable _ p.1.1.0.1 in
     let q = can_move _ _ _ _ _ _ n.sample_bytes-size.ensures (step_is n) (sample-size _ p.0) m in
     (q.0, (q.1, (q.2, q.3, omega (arith, in_out c.before, c.loop-done.invariant.1))))
 
-add_done : tie.Need-overflow_add-done invariant-loop decreases-loop
-add_done c = omega (arith, (turn c).run_from-run.ensures.count-le, (turn c).loop-done-test.true)
+overflow_add-done : tie.Need-overflow_add-done invariant-loop-done decreases-loop-done
+overflow_add-done c = omega (arith, (turn c).run_from-run.ensures.count-le, (turn c).loop-done-test.true)
 
-loop-less : tie.Need-loop-done-smaller invariant-loop decreases-loop
-loop-less c = omega (arith, (turn c).run_from-run.ensures.some, (turn c).loop-done-test.true)
+loop-done-smaller : tie.Need-loop-done-smaller invariant-loop-done decreases-loop-done
+loop-done-smaller c = omega (arith, (turn c).run_from-run.ensures.some, (turn c).loop-done-test.true)
 
-loop-again : tie.Need-loop-done-preserved invariant-loop decreases-loop
-loop-again c =
+loop-done-preserved : tie.Need-loop-done-preserved invariant-loop-done decreases-loop-done
+loop-done-preserved c =
     let run = turn c in
     let n = numbers run.before in
     let a = (start n).args in
@@ -118,10 +118,10 @@ loop-again c =
           run.run_from-run.ensures l),
     )
 
-same_length : tie.Need-shape_of-out invariant-loop decreases-loop
-same_length c = omega arith
+shape_of-out : tie.Need-shape_of-out invariant-loop-done decreases-loop-done
+shape_of-out c = omega arith
 
-returns : tie.Need-returns invariant-loop decreases-loop
+returns : tie.Need-returns invariant-loop-done decreases-loop-done
 returns c =
     let e : c.loop-done.done ≡ c.args.count = omega arith in
     c.loop-done.invariant.2 ∙ rw (e, c.sample_bytes-size.ensures)
@@ -129,6 +129,6 @@ returns c =
 pub read_row_spec : {M : Type 1} → statement M
 read_row_spec =
     tie.close
-    (tie.spec invariant-loop decreases-loop cast-width sample-bytes-requires strides-requires loop-holds add-run-from sub-run-from
-    run-from-requires mul-read-samples add-read-samples read-samples-requires add_done loop-less loop-again
-    same_length returns)
+    (tie.spec invariant-loop-done decreases-loop-done overflow_cast-width sample_bytes-size-requires strides-step-requires loop-done-init overflow_add-c overflow_sub-count
+    run_from-run-requires overflow_mul-done overflow_add-to read_samples-requires overflow_add-done loop-done-smaller loop-done-preserved
+    shape_of-out returns)

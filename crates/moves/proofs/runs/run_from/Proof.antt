@@ -11,11 +11,11 @@ use Rattle.moves.proofs.Pieces.{movable}
 use Rattle.moves.proofs.runs.run_from.Statement.{statement}
 use Rattle.moves.proofs.runs.run_from.Tie as tie
 
-sample-place-requires : tie.Need-sample_place-at-requires
-sample-place-requires c κs = search rules
+sample_place-at-requires : tie.Need-sample_place-at-requires
+sample_place-at-requires c κs = search rules
 
-rest-of-run-requires : tie.Need-rest_of_run-requires
-rest-of-run-requires c κs = search rules
+rest_of_run-requires : tie.Need-rest_of_run-requires
+rest_of_run-requires c κs = search rules
 
 min-requires : tie.Need-min-requires
 min-requires c κs = search rules
@@ -56,4 +56,4 @@ returns c =
 
 pub run_from_spec : {M : Type 1} → statement M
 run_from_spec =
-    tie.close (tie.spec sample-place-requires rest-of-run-requires min-requires returns)
+    tie.close (tie.spec sample_place-at-requires rest_of_run-requires min-requires returns)

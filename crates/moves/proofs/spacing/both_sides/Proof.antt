@@ -6,36 +6,36 @@ use Rattle.moves.proofs.spacing.both_sides.Statement.{statement}
 use Rattle.moves.proofs.spacing.both_sides.Tie as tie
 
 -- the numbers of the planes fit
-planes-fit : (c : tie.After-sample_bytes-size) → let a =
+planes_fit : (c : tie.After-sample_bytes-size) → let a =
     c.args in PlanesFit a.part a.rows a.columns c.sample_bytes-size.result
-planes-fit c = rw c.sample_bytes-size.ensures c.requires.1.1
+planes_fit c = rw c.sample_bytes-size.ensures c.requires.1.1
 
-sample-bytes-requires : tie.Need-sample_bytes-size-requires
-sample-bytes-requires c κs = search rules
+sample_bytes-size-requires : tie.Need-sample_bytes-size-requires
+sample_bytes-size-requires c κs = search rules
 
-strides-requires : tie.Need-strides-by-requires
-strides-requires c κs = search rules
+strides-by-requires : tie.Need-strides-by-requires
+strides-by-requires c κs = search rules
 
-sample-place-requires : tie.Need-sample_place-requires
-sample-place-requires c κs = search rules
+sample_place-requires : tie.Need-sample_place-requires
+sample_place-requires c κs = search rules
 
-mul-t9 : tie.Need-overflow_mul-planes
-mul-t9 c = search rules
+overflow_mul-planes : tie.Need-overflow_mul-planes
+overflow_mul-planes c = search rules
 
-add-t10 : tie.Need-overflow_add-planes
-add-t10 c = search rules
+overflow_add-planes : tie.Need-overflow_add-planes
+overflow_add-planes c = search rules
 
-mul-t11 : tie.Need-overflow_mul-planes-2
-mul-t11 c = record { fits = (planes-fit c.before.before.before.before).first }
+overflow_mul-planes-2 : tie.Need-overflow_mul-planes-2
+overflow_mul-planes-2 c = record { fits = (planes_fit c.before.before.before.before).first }
 
-mul-t12 : tie.Need-overflow_mul-planes-3
-mul-t12 c = search rules
+overflow_mul-planes-3 : tie.Need-overflow_mul-planes-3
+overflow_mul-planes-3 c = search rules
 
-mul-t13 : tie.Need-overflow_mul-planes-4
-mul-t13 c = record { fits = (planes-fit c.before.before.before.before).band }
+overflow_mul-planes-4 : tie.Need-overflow_mul-planes-4
+overflow_mul-planes-4 c = record { fits = (planes_fit c.before.before.before.before).band }
 
-mul-t14 : tie.Need-overflow_mul-planes-5
-mul-t14 c = record { fits = (planes-fit c.before.before.before.before).row }
+overflow_mul-planes-5 : tie.Need-overflow_mul-planes-5
+overflow_mul-planes-5 c = record { fits = (planes_fit c.before.before.before.before).row }
 
 returns : tie.Need-returns
 returns c =
@@ -48,5 +48,5 @@ returns c =
 pub both_sides_spec : {M : Type 1} → statement M
 both_sides_spec =
     tie.close
-    (tie.spec sample-bytes-requires strides-requires sample-place-requires mul-t9 add-t10 mul-t11 mul-t12 mul-t13
-    mul-t14 returns)
+    (tie.spec sample_bytes-size-requires strides-by-requires sample_place-requires overflow_mul-planes overflow_add-planes overflow_mul-planes-2 overflow_mul-planes-3 overflow_mul-planes-4
+    overflow_mul-planes-5 returns)

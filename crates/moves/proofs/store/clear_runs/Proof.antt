@@ -22,15 +22,15 @@ cleared first apart t k image = over image (first + k * apart) (replicate t 0)
 run_in : (f a t n k m : ℕ) → k < n → f + (n - 1) * a + t ≤ m → f + k * a + t ≤ m
 run_in f a t n k m h l = omega (arith, mul-le-mul_right {m = k} {n = n - 1} a (omega arith))
 
-abbrev invariant-loop : tie.invariant-loop-i
-invariant-loop image₀ bands first apart t i₀ image i =
+abbrev invariant-loop-i : tie.invariant-loop-i
+invariant-loop-i image₀ bands first apart t i₀ image i =
     (i ≤ bands) × (length image ≡ length image₀) × (image ≡ iter i (cleared first apart t) image₀)
 
-abbrev decreases-loop : tie.decreases-loop-i
-decreases-loop image₀ bands first apart t i₀ image i = bands - i
+abbrev decreases-loop-i : tie.decreases-loop-i
+decreases-loop-i image₀ bands first apart t i₀ image i = bands - i
 
 -- the run at hand lies inside
-inside : (c : tie.In-loop-i invariant-loop decreases-loop)
+inside : (c : tie.In-loop-i invariant-loop-i decreases-loop-i)
     → let l = c.args.layout in
     l.first + c.loop-i.i * l.apart + l.run_bytes ≤ length c.loop-i.image
 inside c =
@@ -38,29 +38,29 @@ inside c =
     run_in l.first l.apart l.run_bytes l.bands c.loop-i.i (length c.loop-i.image)
     c.loop-i-test.true (omega (arith, c.requires.1, c.loop-i.invariant.1))
 
-cast-bands : tie.Need-overflow_cast-bands invariant-loop decreases-loop
-cast-bands c = search rules
+overflow_cast-bands : tie.Need-overflow_cast-bands invariant-loop-i decreases-loop-i
+overflow_cast-bands c = search rules
 
-loop-holds : tie.Need-loop-i-init invariant-loop decreases-loop
-loop-holds c = (omega arith, refl, iter-none _ _)
+loop-i-init : tie.Need-loop-i-init invariant-loop-i decreases-loop-i
+loop-i-init c = (omega arith, refl, iter-none _ _)
 
-mul-clear-bytes : tie.Need-overflow_mul-i invariant-loop decreases-loop
-mul-clear-bytes c = omega (arith, inside c.before)
+overflow_mul-i : tie.Need-overflow_mul-i invariant-loop-i decreases-loop-i
+overflow_mul-i c = omega (arith, inside c.before)
 
-add-clear-bytes : tie.Need-overflow_add-first invariant-loop decreases-loop
-add-clear-bytes c = omega (arith, inside c.before)
+overflow_add-first : tie.Need-overflow_add-first invariant-loop-i decreases-loop-i
+overflow_add-first c = omega (arith, inside c.before)
 
-clear-bytes-requires : tie.Need-clear_bytes-requires invariant-loop decreases-loop
-clear-bytes-requires c κs = inside c.before
+clear_bytes-requires : tie.Need-clear_bytes-requires invariant-loop-i decreases-loop-i
+clear_bytes-requires c κs = inside c.before
 
-add-i : tie.Need-overflow_step-i invariant-loop decreases-loop
-add-i c = omega arith
+overflow_step-i : tie.Need-overflow_step-i invariant-loop-i decreases-loop-i
+overflow_step-i c = omega arith
 
-loop-less : tie.Need-loop-i-smaller invariant-loop decreases-loop
-loop-less c = omega arith
+loop-i-smaller : tie.Need-loop-i-smaller invariant-loop-i decreases-loop-i
+loop-i-smaller c = omega arith
 
-loop-again : tie.Need-loop-i-preserved invariant-loop decreases-loop
-loop-again c =
+loop-i-preserved : tie.Need-loop-i-preserved invariant-loop-i decreases-loop-i
+loop-i-preserved c =
     let a = c.args in
     let call = c.clear_bytes in (
       omega arith,
@@ -69,10 +69,10 @@ loop-again c =
           a.layout.run_bytes) _ c.loop-i.i c.loop-i.invariant.2 call.ensures,
     )
 
-same_length : tie.Need-shape_of-image invariant-loop decreases-loop
-same_length c = c.loop-i.invariant.1
+shape_of-image : tie.Need-shape_of-image invariant-loop-i decreases-loop-i
+shape_of-image c = c.loop-i.invariant.1
 
-returns : tie.Need-returns invariant-loop decreases-loop
+returns : tie.Need-returns invariant-loop-i decreases-loop-i
 unfolding clear_runs
 returns c =
     let e : c.loop-i.i ≡ c.args.layout.bands = omega arith in
@@ -81,5 +81,5 @@ returns c =
 pub clear_runs_spec : {M : Type 1} → statement M
 clear_runs_spec =
     tie.close
-    (tie.spec invariant-loop decreases-loop cast-bands loop-holds mul-clear-bytes add-clear-bytes clear-bytes-requires add-i
-    loop-less loop-again same_length returns)
+    (tie.spec invariant-loop-i decreases-loop-i overflow_cast-bands loop-i-init overflow_mul-i overflow_add-first clear_bytes-requires overflow_step-i
+    loop-i-smaller loop-i-preserved shape_of-image returns)

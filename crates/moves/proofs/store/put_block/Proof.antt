@@ -20,68 +20,68 @@ use Rattle.moves.proofs.Orders.{area_within, area_follows, area-moves}
 use Rattle.moves.proofs.store.put_block.Statement.{statement}
 use Rattle.moves.proofs.store.put_block.Tie as tie
 
-abbrev invariant-loop : tie.invariant-loop-k
-invariant-loop image₀ layout dat rows columns order sides area₀ k₀ k-end image area k =
+abbrev invariant-loop-k : tie.invariant-loop-k
+invariant-loop-k image₀ layout dat rows columns order sides area₀ k₀ k-end image area k =
     (k ≤ k-end) × Puts (image_target layout (data_at layout dat)) (AreasBefore order k) image₀ image
     × (k < area_count order → area ≡ area_of order k)
 
-abbrev decreases-loop : tie.decreases-loop-k
-decreases-loop image₀ layout dat rows columns order sides area₀ k₀ k-end image area k = k-end - k
+abbrev decreases-loop-k : tie.decreases-loop-k
+decreases-loop-k image₀ layout dat rows columns order sides area₀ k₀ k-end image area k = k-end - k
 
 -- before the loop, in a turn, and the function's start
-abbrev numbers : tie.In-loop-k invariant-loop decreases-loop → tie.After-both_sides-sides invariant-loop decreases-loop
+abbrev numbers : tie.In-loop-k invariant-loop-k decreases-loop-k → tie.After-both_sides-sides invariant-loop-k decreases-loop-k
 numbers c = c.before.before.before.before
 
 -- the area of a turn
-in_turn : (c : tie.In-loop-k invariant-loop decreases-loop)
+in_turn : (c : tie.In-loop-k invariant-loop-k decreases-loop-k)
     → c.loop-k.k < area_count (numbers c).choose-order.result
 in_turn c = omega (arith, c.loop-k-test.true, c.areas-k-end.ensures)
 
-area_is : (c : tie.In-loop-k invariant-loop decreases-loop)
+area_is : (c : tie.In-loop-k invariant-loop-k decreases-loop-k)
     → c.loop-k.area ≡ area_of (numbers c).choose-order.result c.loop-k.k
 area_is c = c.loop-k.invariant.2 (in_turn c)
 
-abbrev start : tie.After-both_sides-sides invariant-loop decreases-loop → tie.Start invariant-loop decreases-loop
+abbrev start : tie.After-both_sides-sides invariant-loop-k decreases-loop-k → tie.Start invariant-loop-k decreases-loop-k
 start c = c.before.before.before.before.before.before
 
-in_dat : (s : tie.Start invariant-loop decreases-loop) → length s.args.dat.now < 2 ^ 64
+in_dat : (s : tie.Start invariant-loop-k decreases-loop-k) → length s.args.dat.now < 2 ^ 64
 in_dat s = omega arith
 
-cast-choose : tie.Need-overflow_cast-layout invariant-loop decreases-loop
-cast-choose c = search rules
+overflow_cast-layout : tie.Need-overflow_cast-layout invariant-loop-k decreases-loop-k
+overflow_cast-layout c = search rules
 
-choose-requires : tie.Need-choose-order-requires invariant-loop decreases-loop
-choose-requires c κs =
+choose-order-requires : tie.Need-choose-order-requires invariant-loop-k decreases-loop-k
+choose-order-requires c κs =
     let f = c.requires.accepted in (f, (f.some-bands, f.some-rows, f.some-columns))
 
-whole-part-requires : tie.Need-whole_part-requires invariant-loop decreases-loop
-whole-part-requires c κs = search rules
+whole_part-requires : tie.Need-whole_part-requires invariant-loop-k decreases-loop-k
+whole_part-requires c κs = search rules
 
-both-sides-requires : tie.Need-both_sides-sides-requires invariant-loop decreases-loop
-both-sides-requires c κs =
+both_sides-sides-requires : tie.Need-both_sides-sides-requires invariant-loop-k decreases-loop-k
+both_sides-sides-requires c κs =
     let s = c.before.before.before.before.before in
     let f = s.requires.accepted in
     let fit = whole_planes _ _ _ s.requires (in_dat s) in
     rw c.whole_part.ensures
     (f, (record { in_b = f.some-bands; in_r = f.some-rows; in_c = f.some-columns }, fit))
 
-first-area-requires : tie.Need-first_area-area-requires invariant-loop decreases-loop
-first-area-requires c κs =
+first_area-area-requires : tie.Need-first_area-area-requires invariant-loop-k decreases-loop-k
+first_area-area-requires c κs =
     let f = (start c).requires.accepted in
     let chosen = c.choose-order.ensures in
     (omega (arith, f.some-rows, chosen.rows_are), omega (arith, f.some-columns, chosen.columns_are))
 
-areas-requires : tie.Need-areas-k-end-requires invariant-loop decreases-loop
-areas-requires c κs =
+areas-k-end-requires : tie.Need-areas-k-end-requires invariant-loop-k decreases-loop-k
+areas-k-end-requires c κs =
     let f = (start c.before).requires.accepted in
     areas_fit c.choose-order.ensures (data_fits _ f).samples f.some-bands
 
-loop-holds : tie.Need-loop-k-init invariant-loop decreases-loop
-loop-holds c =
+loop-k-init : tie.Need-loop-k-init invariant-loop-k decreases-loop-k
+loop-k-init c =
     (omega arith, no_area _ c.choose-order.result _, λ h. c.first_area-area.ensures)
 
-store-area-requires : tie.Need-store_area-requires invariant-loop decreases-loop
-store-area-requires c κs =
+store_area-requires : tie.Need-store_area-requires invariant-loop-k decreases-loop-k
+store_area-requires c κs =
     let turn = c.before in
     let n = numbers turn in
     let s = start n in
@@ -93,19 +93,19 @@ store-area-requires c κs =
     let moves = area-moves chosen _ (in_turn turn) (area_is turn) fits in
     (n.both_sides-sides.ensures ∙ whole, (w, moves))
 
-next-area-requires : tie.Need-next_area-area-requires invariant-loop decreases-loop
-next-area-requires c κs =
+next_area-area-requires : tie.Need-next_area-area-requires invariant-loop-k decreases-loop-k
+next_area-area-requires c κs =
     let turn = c.before.before.before.before in
     area_within (numbers turn).choose-order.ensures _ (in_turn turn) (area_is turn)
 
-add-k : tie.Need-overflow_step-k invariant-loop decreases-loop
-add-k c = omega arith
+overflow_step-k : tie.Need-overflow_step-k invariant-loop-k decreases-loop-k
+overflow_step-k c = omega arith
 
-loop-less : tie.Need-loop-k-smaller invariant-loop decreases-loop
-loop-less c = omega arith
+loop-k-smaller : tie.Need-loop-k-smaller invariant-loop-k decreases-loop-k
+loop-k-smaller c = omega arith
 
-loop-again : tie.Need-loop-k-preserved invariant-loop decreases-loop
-loop-again c =
+loop-k-preserved : tie.Need-loop-k-preserved invariant-loop-k decreases-loop-k
+loop-k-preserved c =
     let turn = c.before.before.before.before.before in
     let chosen = (numbers turn).choose-order.ensures in
     let put = c.store_area.ensures in
@@ -113,10 +113,10 @@ loop-again c =
     let follows = area_follows chosen _ (in_turn turn) (area_is turn) c.next_area-area.ensures in
     (omega (arith, turn.loop-k-test.true), puts, follows)
 
-same_length : tie.Need-shape_of-image invariant-loop decreases-loop
-same_length c = c.loop-k.invariant.1.size
+shape_of-image : tie.Need-shape_of-image invariant-loop-k decreases-loop-k
+shape_of-image c = c.loop-k.invariant.1.size
 
-returns : tie.Need-returns invariant-loop decreases-loop
+returns : tie.Need-returns invariant-loop-k decreases-loop-k
 unfolding put_block
 returns c =
     let n = c.before.before.before.before in
@@ -130,5 +130,5 @@ returns c =
 pub put_block_spec : {M : Type 1} → statement M
 put_block_spec =
     tie.close
-    (tie.spec invariant-loop decreases-loop cast-choose choose-requires whole-part-requires both-sides-requires first-area-requires
-    areas-requires loop-holds store-area-requires next-area-requires add-k loop-less loop-again same_length returns)
+    (tie.spec invariant-loop-k decreases-loop-k overflow_cast-layout choose-order-requires whole_part-requires both_sides-sides-requires first_area-area-requires
+    areas-k-end-requires loop-k-init store_area-requires next_area-area-requires overflow_step-k loop-k-smaller loop-k-preserved shape_of-image returns)

@@ -11,29 +11,29 @@ use Rattle.moves.proofs.Orders.{piece_starts, piece_inside, piece_way}
 use Rattle.moves.proofs.store.store_area.Statement.{statement}
 use Rattle.moves.proofs.store.store_area.Tie as tie
 
-abbrev invariant-loop : tie.invariant-loop-p
-invariant-loop image₀ layout sides order area dat p-end p₀ image p =
+abbrev invariant-loop-p : tie.invariant-loop-p
+invariant-loop-p image₀ layout sides order area dat p-end p₀ image p =
     (p ≤ p-end) × Puts (image_target layout (data_at layout dat)) (PartsBefore order area p) image₀ image
 
-abbrev decreases-loop : tie.decreases-loop-p
-decreases-loop image₀ layout sides order area dat p-end p₀ image p = p-end - p
+abbrev decreases-loop-p : tie.decreases-loop-p
+decreases-loop-p image₀ layout sides order area dat p-end p₀ image p = p-end - p
 
-loop-holds : tie.Need-loop-p-init invariant-loop decreases-loop
-loop-holds c =
+loop-p-init : tie.Need-loop-p-init invariant-loop-p decreases-loop-p
+loop-p-init c =
     (omega arith, no-parts _ c.args.order c.args.area _)
 
 -- the function's start, and the part of the bands of a turn
-abbrev start : tie.In-loop-p invariant-loop decreases-loop → tie.Start invariant-loop decreases-loop
+abbrev start : tie.In-loop-p invariant-loop-p decreases-loop-p → tie.Start invariant-loop-p decreases-loop-p
 start c = c.before.before.before.before
 
-in_turn : (c : tie.In-loop-p invariant-loop decreases-loop) → c.loop-p.p < (start c).args.order.bands.parts
+in_turn : (c : tie.In-loop-p invariant-loop-p decreases-loop-p) → c.loop-p.p < (start c).args.order.bands.parts
 in_turn c = c.loop-p-test.true
 
-piece-requires : tie.Need-piece-requires invariant-loop decreases-loop
+piece-requires : tie.Need-piece-requires invariant-loop-p decreases-loop-p
 piece-requires c κs = piece_starts (start c.before).requires.1.1 _ (in_turn c.before)
 
-store-piece-requires : tie.Need-store_piece-requires invariant-loop decreases-loop
-store-piece-requires c κs =
+store_piece-requires : tie.Need-store_piece-requires invariant-loop-p decreases-loop-p
+store_piece-requires c κs =
     let turn = c.before.before in
     let s = start turn in
     let moves = s.requires.1.1 in
@@ -41,32 +41,32 @@ store-piece-requires c κs =
     let w = stays-writable s.requires.1.0 turn.loop-p.invariant.1.size in
     (s.requires.0, (w, (piece_inside moves _ (in_turn turn) e, piece_way moves _ (in_turn turn) e)))
 
-add-p : tie.Need-overflow_step-p invariant-loop decreases-loop
-add-p c =
+overflow_step-p : tie.Need-overflow_step-p invariant-loop-p decreases-loop-p
+overflow_step-p c =
     let turn = c.before.before.before.before.before in
     record { fits = turn-fits {n = (start turn).args.order.bands.parts} {p = turn.loop-p.p} (in_turn turn) (start turn).requires.1.1.parts-fit }
 
-loop-less : tie.Need-loop-p-smaller invariant-loop decreases-loop
-loop-less c =
+loop-p-smaller : tie.Need-loop-p-smaller invariant-loop-p decreases-loop-p
+loop-p-smaller c =
     let turn = c.before.before.before.before.before in
     turn_less {n = (start turn).args.order.bands.parts} {p = turn.loop-p.p} (in_turn turn)
 
-loop-again : tie.Need-loop-p-preserved invariant-loop decreases-loop
-loop-again c =
+loop-p-preserved : tie.Need-loop-p-preserved invariant-loop-p decreases-loop-p
+loop-p-preserved c =
     let turn = c.before.before.before.before.before in
     let moves = (start turn).requires.1.1 in
     let read = c.store_piece.ensures in
     (turn-le {n = (start turn).args.order.bands.parts} {p = turn.loop-p.p} (in_turn turn), parts-turn _ moves _ c.piece.ensures turn.loop-p.invariant.1 read)
 
-same_length : tie.Need-shape_of-image invariant-loop decreases-loop
-same_length c = c.loop-p.invariant.1.size
+shape_of-image : tie.Need-shape_of-image invariant-loop-p decreases-loop-p
+shape_of-image c = c.loop-p.invariant.1.size
 
-returns : tie.Need-returns invariant-loop decreases-loop
+returns : tie.Need-returns invariant-loop-p decreases-loop-p
 returns c =
     parts-done _ c.requires.1.1 _ (omega (arith, c.loop-p-test.false)) c.loop-p.invariant.1
 
 pub store_area_spec : {M : Type 1} → statement M
 store_area_spec =
     tie.close
-    (tie.spec invariant-loop decreases-loop loop-holds piece-requires store-piece-requires add-p loop-less loop-again same_length
+    (tie.spec invariant-loop-p decreases-loop-p loop-p-init piece-requires store_piece-requires overflow_step-p loop-p-smaller loop-p-preserved shape_of-image
     returns)

@@ -34,26 +34,26 @@ cleared c =
       )
     ]
 
-is-byte-multiple-requires : tie.Need-is_byte_multiple-requires
-is-byte-multiple-requires c κs = search rules
+is_byte_multiple-requires : tie.Need-is_byte_multiple-requires
+is_byte_multiple-requires c κs = search rules
 
-clear-runs-requires : tie.Need-clear_runs-requires
-clear-runs-requires c κs =
+clear_runs-requires : tie.Need-clear_runs-requires
+clear_runs-requires c κs =
     let w = c.requires in (
       w.accepted,
       rw (end-packed _ (no c.is_byte_multiple.ensures c.if-not-is_byte_multiple.true)) at
           w.image_holds,
     )
 
-put-block-requires : tie.Need-put_block-requires
-put-block-requires c κs = stays-writable c.requires (cleared c.before).0
+put_block-requires : tie.Need-put_block-requires
+put_block-requires c κs = stays-writable c.requires (cleared c.before).0
 
-same_length : tie.Need-shape_of-image
-same_length c = omega (arith, c.put_block.auto, (cleared c.before.before.before.before).0)
+shape_of-image : tie.Need-shape_of-image
+shape_of-image c = omega (arith, c.put_block.auto, (cleared c.before.before.before.before).0)
 
 returns : tie.Need-returns
 returns c = c.put_block.ensures ∙ (cleared c.before.before.before.before).1
 
 pub store_block_spec : {M : Type 1} → statement M
 store_block_spec =
-    tie.close (tie.spec is-byte-multiple-requires clear-runs-requires put-block-requires same_length returns)
+    tie.close (tie.spec is_byte_multiple-requires clear_runs-requires put_block-requires shape_of-image returns)

@@ -24,38 +24,38 @@ placed s =
     placed-block p.1.0 (ap (λ (x : Sides). x.image) p.0) (ap (λ (x : Sides). x.planes) p.0) p.1.1.0
 
 -- what the way of the arm asks
-way-fits : (s : tie.Start) (w : Way) → s.args.way ≡ w
+way_fits : (s : tie.Start) (w : Way) → s.args.way ≡ w
     → WayFits w s.args.layout s.args.piece.bands.count s.args.piece.rows.count
-way-fits s w e = rw e at s.requires.1.1.1
+way_fits s w e = rw e at s.requires.1.1.1
 
-first-band : (s : tie.Start) → s.args.piece.bands.from < s.args.layout.bands
-first-band s = omega (arith, s.requires.1.1.0.in_bands)
+first_band : (s : tie.Start) → s.args.piece.bands.from < s.args.layout.bands
+first_band s = omega (arith, s.requires.1.1.0.in_bands)
 
 -- where the arms part
 abbrev start : tie.After-at-from → tie.Start
 start c = c.before.before.before.before.before
 
-at-requires : tie.Need-at-from-requires
-at-requires c κs = to_fits (placed c.before.before.before.before) (omega arith)
+at-from-requires : tie.Need-at-from-requires
+at-from-requires c κs = to_fits (placed c.before.before.before.before) (omega arith)
 
-enum_told : tie.Need-enum_told-1
-enum_told c = search rules
+enum_told-1 : tie.Need-enum_told-1
+enum_told-1 c = search rules
 
-at-requires-2 : tie.Need-at-at-requires
-at-requires-2 c κs =
+at-at-requires : tie.Need-at-at-requires
+at-at-requires c κs =
     let s = start c.before in
-    at-fits (placed s) (way-fits s Rows c.in-Rows.is).0 _ (first-band s)
+    at-fits (placed s) (way_fits s Rows c.in-Rows.is).0 _ (first_band s)
 
-cast-write-rows : tie.Need-overflow_cast-layout
-cast-write-rows c = search rules
+overflow_cast-layout : tie.Need-overflow_cast-layout
+overflow_cast-layout c = search rules
 
-write-rows-requires : tie.Need-write_rows-requires
-write-rows-requires c κs =
+write_rows-requires : tie.Need-write_rows-requires
+write_rows-requires c κs =
     let at = c.before.before in
     let from = at.before.before in
     let s = start from in
-    let w = way-fits s Rows at.in-Rows.is in
-    let m = rows_move (placed s) w.0 _ (first-band s) at.at-at.ensures in (
+    let w = way_fits s Rows at.in-Rows.is in
+    let m = rows_move (placed s) w.0 _ (first_band s) at.at-at.ensures in (
       (m.bits_le, m.bytes_le),
       (
         m.movable,
@@ -66,23 +66,23 @@ write-rows-requires c κs =
       ),
     )
 
-enum-told-2 : tie.Need-enum_told-in-Pixels
-enum-told-2 c = search rules
+enum_told-in-Pixels : tie.Need-enum_told-in-Pixels
+enum_told-in-Pixels c = search rules
 
-at-requires-3 : tie.Need-at-at-requires-in-Pixels
-at-requires-3 c κs =
+at-at-requires-in-Pixels : tie.Need-at-at-requires-in-Pixels
+at-at-requires-in-Pixels c κs =
     let s = start c.before in
-    at-fits (placed s) (way-fits s Pixels c.in-Pixels.is).0 _ (first-band s)
+    at-fits (placed s) (way_fits s Pixels c.in-Pixels.is).0 _ (first_band s)
 
-gather-rows-requires : tie.Need-gather_rows-requires
-gather-rows-requires c κs =
+gather_rows-requires : tie.Need-gather_rows-requires
+gather_rows-requires c κs =
     let at = c.before.before in
     let from = at.before.before in
     let s = start from in
-    let w = way-fits s Pixels at.in-Pixels.is in
+    let w = way_fits s Pixels at.in-Pixels.is in
     let i = s.requires.1.1.0.in_bands in
     let n : ℕ = s.args.piece.bands.count in (
-      ((rows_move (placed s) w.0 _ (first-band s) at.at-at-in-Pixels.ensures).bytes_le, i.some),
+      ((rows_move (placed s) w.0 _ (first_band s) at.at-at-in-Pixels.ensures).bytes_le, i.some),
       (
         omega (arith, bands-room (placed s) from.at-from.ensures),
         omega (
@@ -93,61 +93,61 @@ gather-rows-requires c κs =
       ),
     )
 
-enum-told-3 : tie.Need-enum_told-in-Runs
-enum-told-3 c = search rules
+enum_told-in-Runs : tie.Need-enum_told-in-Runs
+enum_told-in-Runs c = search rules
 
-put-row-requires : tie.Need-put_row-requires
-put-row-requires c κs =
+put_row-requires : tie.Need-put_row-requires
+put_row-requires c κs =
     let from = c.before.before in
     let s = start from in
     let i = s.requires.1.1.0 in (
       s.requires.1.0,
       (
-        record { in_b = first-band s; in_r = omega (arith, i.in_rows); in_c = omega (arith, i.in_columns) },
+        record { in_b = first_band s; in_r = omega (arith, i.in_rows); in_c = omega (arith, i.in_columns) },
         (i.in_columns.ends, index_is s.args.layout _ _ _ (placed s).planes_are from.at-from.ensures),
       ),
     )
 
-same_length : tie.Need-shape_of-image-in-Rows
-same_length c = search rules
+shape_of-image-in-Rows : tie.Need-shape_of-image-in-Rows
+shape_of-image-in-Rows c = search rules
 
-returns : tie.Need-returns-in-Rows
-returns c =
+returns-in-Rows : tie.Need-returns-in-Rows
+returns-in-Rows c =
     let at = c.before.before.before.before.before in
     let from = at.before.before in
     let s = start from in
-    let w = way-fits s Rows at.in-Rows.is in
+    let w = way_fits s Rows at.in-Rows.is in
     rows-put s.requires.1.0 (placed s) s.requires.1.1.0 w.0 at.at-at.ensures from.at-from.ensures w.1
     c.write_rows.ensures
 
-same-length-2 : tie.Need-shape_of-image-in-Pixels
-same-length-2 c = search rules
+shape_of-image-in-Pixels : tie.Need-shape_of-image-in-Pixels
+shape_of-image-in-Pixels c = search rules
 
-returns-2 : tie.Need-returns-in-Pixels
-returns-2 c =
+returns-in-Pixels : tie.Need-returns-in-Pixels
+returns-in-Pixels c =
     let at = c.before.before.before.before.before in
     let from = at.before.before in
     let s = start from in
-    let w = way-fits s Pixels at.in-Pixels.is in
+    let w = way_fits s Pixels at.in-Pixels.is in
     pixels-put s.requires.1.0 (placed s) s.requires.1.1.0 w.0 at.at-at-in-Pixels.ensures from.at-from.ensures
     (λ i. (from.shared_slice_known-1.given i).fits) (λ i. (from.slice_known-1.given i).fits) w.1 w.2
     w.3
     c.gather_rows.ensures
 
-same-length-3 : tie.Need-shape_of-image-in-Runs
-same-length-3 c = search rules
+shape_of-image-in-Runs : tie.Need-shape_of-image-in-Runs
+shape_of-image-in-Runs c = search rules
 
-returns-3 : tie.Need-returns-in-Runs
-returns-3 c =
+returns-in-Runs : tie.Need-returns-in-Runs
+returns-in-Runs c =
     let told = c.before.before.before.before in
     let s = start told.before in
-    let w = way-fits s Runs told.in-Runs.is in
+    let w = way_fits s Runs told.in-Runs.is in
     puts_less _ c.put_row.ensures
     (λ b r c a g. (omega (arith, g.in_b, w.1), omega (arith, g.in_r, w.0), g.in_c.low, g.in_c.high))
 
 pub store_piece_spec : {M : Type 1} → statement M
 store_piece_spec =
     tie.close
-    (tie.spec at-requires enum_told at-requires-2 cast-write-rows write-rows-requires enum-told-2 at-requires-3
-    gather-rows-requires enum-told-3 put-row-requires same_length returns same-length-2 returns-2 same-length-3
-    returns-3)
+    (tie.spec at-from-requires enum_told-1 at-at-requires overflow_cast-layout write_rows-requires enum_told-in-Pixels at-at-requires-in-Pixels
+    gather_rows-requires enum_told-in-Runs put_row-requires shape_of-image-in-Rows returns-in-Rows shape_of-image-in-Pixels returns-in-Pixels shape_of-image-in-Runs
+    returns-in-Runs)

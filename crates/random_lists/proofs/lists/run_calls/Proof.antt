@@ -10,35 +10,35 @@ invariant-loop seed₀ p image₀ marks₀ numbers₀ reached₀ counts₀ count
 abbrev decreases-loop : tie.decreases-loop
 decreases-loop seed₀ p image₀ marks₀ numbers₀ reached₀ counts₀ counter₀ seed image marks numbers reached counts counter = 60 - counter
 
-loop-holds : tie.Need-loop-init invariant-loop decreases-loop
-loop-holds c = search rules
+loop-init : tie.Need-loop-init invariant-loop decreases-loop
+loop-init c = search rules
 
-lend-and-call-requires : tie.Need-lend_and_call-requires invariant-loop decreases-loop
-lend-and-call-requires c κs = search rules
+lend_and_call-requires : tie.Need-lend_and_call-requires invariant-loop decreases-loop
+lend_and_call-requires c κs = search rules
 
-add-counter : tie.Need-overflow_step invariant-loop decreases-loop
-add-counter c = omega arith
+overflow_step : tie.Need-overflow_step invariant-loop decreases-loop
+overflow_step c = omega arith
 
-loop-less : tie.Need-loop-smaller invariant-loop decreases-loop
-loop-less c = omega arith
+loop-smaller : tie.Need-loop-smaller invariant-loop decreases-loop
+loop-smaller c = omega arith
 
-loop-again : tie.Need-loop-preserved invariant-loop decreases-loop
-loop-again c = search rules
+loop-preserved : tie.Need-loop-preserved invariant-loop decreases-loop
+loop-preserved c = search rules
 
-same_length : tie.Need-shape_of-image invariant-loop decreases-loop
-same_length c = c.loop.invariant.1
+shape_of-image : tie.Need-shape_of-image invariant-loop decreases-loop
+shape_of-image c = c.loop.invariant.1
 
-same-length-2 : tie.Need-shape_of-marks invariant-loop decreases-loop
-same-length-2 c = c.loop.invariant.2
+shape_of-marks : tie.Need-shape_of-marks invariant-loop decreases-loop
+shape_of-marks c = c.loop.invariant.2
 
-same-length-3 : tie.Need-shape_of-numbers invariant-loop decreases-loop
-same-length-3 c = c.loop.invariant.3
+shape_of-numbers : tie.Need-shape_of-numbers invariant-loop decreases-loop
+shape_of-numbers c = c.loop.invariant.3
 
-same-length-4 : tie.Need-shape_of-reached invariant-loop decreases-loop
-same-length-4 c = c.loop.invariant.4
+shape_of-reached : tie.Need-shape_of-reached invariant-loop decreases-loop
+shape_of-reached c = c.loop.invariant.4
 
-same-length-5 : tie.Need-shape_of-counts invariant-loop decreases-loop
-same-length-5 c = c.loop.invariant.5
+shape_of-counts : tie.Need-shape_of-counts invariant-loop decreases-loop
+shape_of-counts c = c.loop.invariant.5
 
 returns : tie.Need-returns invariant-loop decreases-loop
 returns c = search rules
@@ -49,14 +49,14 @@ run_calls_spec =
     (tie.spec
     invariant-loop
     decreases-loop
-    loop-holds
-    lend-and-call-requires
-    add-counter
-    loop-less
-    loop-again
-    same_length
-    same-length-2
-    same-length-3
-    same-length-4
-    same-length-5
+    loop-init
+    lend_and_call-requires
+    overflow_step
+    loop-smaller
+    loop-preserved
+    shape_of-image
+    shape_of-marks
+    shape_of-numbers
+    shape_of-reached
+    shape_of-counts
     returns)

@@ -4,11 +4,11 @@ use Rattle.std.proofs.Common.{sym, arith, length-take-le, rules}
 use Rattle.random_lists.proofs.lists.run_list.Statement.{statement}
 use Rattle.random_lists.proofs.lists.run_list.Tie as tie
 
-some-picture-requires : tie.Need-some_picture-p-requires
-some-picture-requires c κs = search rules
+some_picture-p-requires : tie.Need-some_picture-p-requires
+some_picture-p-requires c κs = search rules
 
-slice-aggregate-fill : tie.Need-slice_bounds-fill-end
-slice-aggregate-fill c = search rules
+slice_bounds-fill-end : tie.Need-slice_bounds-fill-end
+slice_bounds-fill-end c = search rules
 
 fill-requires : tie.Need-fill-requires
 fill-requires c κs = search rules
@@ -16,55 +16,55 @@ fill-requires c κs = search rules
 below-requires : tie.Need-below-requires
 below-requires c κs = search rules
 
-sum-requires : tie.Need-sum-room-requires
-sum-requires c κs = search rules
+sum-room-requires : tie.Need-sum-room-requires
+sum-room-requires c κs = search rules
 
-returns : tie.Need-returns-then-room-gt8192
+returns-then-room-gt8192 : tie.Need-returns-then-room-gt8192
+returns-then-room-gt8192 c = search rules
+
+lent-n-requires : tie.Need-lent-n-requires
+lent-n-requires c κs = search rules
+
+lent-m-requires : tie.Need-lent-m-requires
+lent-m-requires c κs = search rules
+
+slice_bounds-image-end : tie.Need-slice_bounds-image-end
+slice_bounds-image-end c = search rules
+
+slice_bounds-start_and_run-end : tie.Need-slice_bounds-start_and_run-end
+slice_bounds-start_and_run-end c = sym (length-take-le _ _ (omega arith))
+
+slice_bounds-marks-end : tie.Need-slice_bounds-marks-end
+slice_bounds-marks-end c = search rules
+
+slice_bounds-start_and_run-end-2 : tie.Need-slice_bounds-start_and_run-end-2
+slice_bounds-start_and_run-end-2 c = sym (length-take-le _ _ (omega arith))
+
+start_and_run-requires : tie.Need-start_and_run-requires
+start_and_run-requires c κs = search rules
+
+shape_of-counts : tie.Need-shape_of-counts
+shape_of-counts c = search rules
+
+returns : tie.Need-returns
 returns c = search rules
-
-lent-requires : tie.Need-lent-n-requires
-lent-requires c κs = search rules
-
-lent-requires-2 : tie.Need-lent-m-requires
-lent-requires-2 c κs = search rules
-
-array-borrow-prefix-image : tie.Need-slice_bounds-image-end
-array-borrow-prefix-image c = search rules
-
-slice-aggregate-start-and-run : tie.Need-slice_bounds-start_and_run-end
-slice-aggregate-start-and-run c = sym (length-take-le _ _ (omega arith))
-
-array-borrow-prefix-marks : tie.Need-slice_bounds-marks-end
-array-borrow-prefix-marks c = search rules
-
-slice-aggregate-start-and-run-2 : tie.Need-slice_bounds-start_and_run-end-2
-slice-aggregate-start-and-run-2 c = sym (length-take-le _ _ (omega arith))
-
-start-and-run-requires : tie.Need-start_and_run-requires
-start-and-run-requires c κs = search rules
-
-same_length : tie.Need-shape_of-counts
-same_length c = search rules
-
-returns-2 : tie.Need-returns
-returns-2 c = search rules
 
 pub run_list_spec : {M : Type 1} → statement M
 run_list_spec =
     tie.close
     (tie.spec
-    some-picture-requires
-    slice-aggregate-fill
+    some_picture-p-requires
+    slice_bounds-fill-end
     fill-requires
     below-requires
-    sum-requires
-    returns
-    lent-requires
-    lent-requires-2
-    array-borrow-prefix-image
-    slice-aggregate-start-and-run
-    array-borrow-prefix-marks
-    slice-aggregate-start-and-run-2
-    start-and-run-requires
-    same_length
-    returns-2)
+    sum-room-requires
+    returns-then-room-gt8192
+    lent-n-requires
+    lent-m-requires
+    slice_bounds-image-end
+    slice_bounds-start_and_run-end
+    slice_bounds-marks-end
+    slice_bounds-start_and_run-end-2
+    start_and_run-requires
+    shape_of-counts
+    returns)

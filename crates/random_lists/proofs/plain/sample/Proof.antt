@@ -4,43 +4,43 @@ use Rattle.std.proofs.Common.{◌-◌, ◌≤◌, arith, rules}
 use Rattle.random_lists.proofs.plain.sample.Statement.{statement}
 use Rattle.random_lists.proofs.plain.sample.Tie as tie
 
-abbrev invariant-loop : tie.invariant-loop-k
-invariant-loop «data» at size v₀ k₀ v k = k ≤ size
+abbrev invariant-loop-k : tie.invariant-loop-k
+invariant-loop-k «data» at size v₀ k₀ v k = k ≤ size
 
-abbrev decreases-loop : tie.decreases-loop-k
-decreases-loop «data» at size v₀ k₀ v k = size - k
+abbrev decreases-loop-k : tie.decreases-loop-k
+decreases-loop-k «data» at size v₀ k₀ v k = size - k
 
-loop-holds : tie.Need-loop-k-init invariant-loop decreases-loop
-loop-holds c = omega arith
+loop-k-init : tie.Need-loop-k-init invariant-loop-k decreases-loop-k
+loop-k-init c = omega arith
 
-sum-requires : tie.Need-sum-requires invariant-loop decreases-loop
+sum-requires : tie.Need-sum-requires invariant-loop-k decreases-loop-k
 sum-requires c κs = search rules
 
-next-byte-requires : tie.Need-next_byte-v-requires invariant-loop decreases-loop
-next-byte-requires c κs = search rules
+next_byte-v-requires : tie.Need-next_byte-v-requires invariant-loop-k decreases-loop-k
+next_byte-v-requires c κs = search rules
 
-add-k : tie.Need-overflow_step-k invariant-loop decreases-loop
-add-k c = omega arith
+overflow_step-k : tie.Need-overflow_step-k invariant-loop-k decreases-loop-k
+overflow_step-k c = omega arith
 
-loop-less : tie.Need-loop-k-smaller invariant-loop decreases-loop
-loop-less c = omega arith
+loop-k-smaller : tie.Need-loop-k-smaller invariant-loop-k decreases-loop-k
+loop-k-smaller c = omega arith
 
-loop-again : tie.Need-loop-k-preserved invariant-loop decreases-loop
-loop-again c = omega arith
+loop-k-preserved : tie.Need-loop-k-preserved invariant-loop-k decreases-loop-k
+loop-k-preserved c = omega arith
 
-returns : tie.Need-returns invariant-loop decreases-loop
+returns : tie.Need-returns invariant-loop-k decreases-loop-k
 returns c = search rules
 
 pub sample_spec : {M : Type 1} → statement M
 sample_spec =
     tie.close
     (tie.spec
-    invariant-loop
-    decreases-loop
-    loop-holds
+    invariant-loop-k
+    decreases-loop-k
+    loop-k-init
     sum-requires
-    next-byte-requires
-    add-k
-    loop-less
-    loop-again
+    next_byte-v-requires
+    overflow_step-k
+    loop-k-smaller
+    loop-k-preserved
     returns)

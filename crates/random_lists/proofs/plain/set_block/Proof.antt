@@ -4,59 +4,59 @@ use Rattle.std.proofs.Common.{◌≡◌, ◌-◌, ◌≤◌, length, arith, rule
 use Rattle.random_lists.proofs.plain.set_block.Statement.{statement}
 use Rattle.random_lists.proofs.plain.set_block.Tie as tie
 
-abbrev invariant-loop : tie.invariant-loop-k
-invariant-loop numbers₀ p row column «data» lines samples k₀ numbers k = (k ≤ samples) × (length numbers ≡ length numbers₀)
+abbrev invariant-loop-k : tie.invariant-loop-k
+invariant-loop-k numbers₀ p row column «data» lines samples k₀ numbers k = (k ≤ samples) × (length numbers ≡ length numbers₀)
 
-abbrev decreases-loop : tie.decreases-loop-k
-decreases-loop numbers₀ p row column «data» lines samples k₀ numbers k = samples - k
+abbrev decreases-loop-k : tie.decreases-loop-k
+decreases-loop-k numbers₀ p row column «data» lines samples k₀ numbers k = samples - k
 
-actual-rows-requires : tie.Need-actual_rows-requires invariant-loop decreases-loop
-actual-rows-requires c κs = search rules
+actual_rows-requires : tie.Need-actual_rows-requires invariant-loop-k decreases-loop-k
+actual_rows-requires c κs = search rules
 
-product-requires : tie.Need-product-lines-requires invariant-loop decreases-loop
-product-requires c κs = search rules
+product-lines-requires : tie.Need-product-lines-requires invariant-loop-k decreases-loop-k
+product-lines-requires c κs = search rules
 
-actual-columns-requires : tie.Need-actual_columns-requires invariant-loop decreases-loop
-actual-columns-requires c κs = search rules
+actual_columns-requires : tie.Need-actual_columns-requires invariant-loop-k decreases-loop-k
+actual_columns-requires c κs = search rules
 
-product-requires-2 : tie.Need-product-samples-requires invariant-loop decreases-loop
-product-requires-2 c κs = search rules
+product-samples-requires : tie.Need-product-samples-requires invariant-loop-k decreases-loop-k
+product-samples-requires c κs = search rules
 
-loop-holds : tie.Need-loop-k-init invariant-loop decreases-loop
-loop-holds c = search rules
+loop-k-init : tie.Need-loop-k-init invariant-loop-k decreases-loop-k
+loop-k-init c = search rules
 
-set-sample-requires : tie.Need-set_sample-requires invariant-loop decreases-loop
-set-sample-requires c κs = search rules
+set_sample-requires : tie.Need-set_sample-requires invariant-loop-k decreases-loop-k
+set_sample-requires c κs = search rules
 
-add-k : tie.Need-overflow_step-k invariant-loop decreases-loop
-add-k c = omega arith
+overflow_step-k : tie.Need-overflow_step-k invariant-loop-k decreases-loop-k
+overflow_step-k c = omega arith
 
-loop-less : tie.Need-loop-k-smaller invariant-loop decreases-loop
-loop-less c = omega arith
+loop-k-smaller : tie.Need-loop-k-smaller invariant-loop-k decreases-loop-k
+loop-k-smaller c = omega arith
 
-loop-again : tie.Need-loop-k-preserved invariant-loop decreases-loop
-loop-again c = search rules
+loop-k-preserved : tie.Need-loop-k-preserved invariant-loop-k decreases-loop-k
+loop-k-preserved c = search rules
 
-same_length : tie.Need-shape_of-numbers invariant-loop decreases-loop
-same_length c = c.loop-k.invariant.1
+shape_of-numbers : tie.Need-shape_of-numbers invariant-loop-k decreases-loop-k
+shape_of-numbers c = c.loop-k.invariant.1
 
-returns : tie.Need-returns invariant-loop decreases-loop
+returns : tie.Need-returns invariant-loop-k decreases-loop-k
 returns c = search rules
 
 pub set_block_spec : {M : Type 1} → statement M
 set_block_spec =
     tie.close
     (tie.spec
-    invariant-loop
-    decreases-loop
-    actual-rows-requires
-    product-requires
-    actual-columns-requires
-    product-requires-2
-    loop-holds
-    set-sample-requires
-    add-k
-    loop-less
-    loop-again
-    same_length
+    invariant-loop-k
+    decreases-loop-k
+    actual_rows-requires
+    product-lines-requires
+    actual_columns-requires
+    product-samples-requires
+    loop-k-init
+    set_sample-requires
+    overflow_step-k
+    loop-k-smaller
+    loop-k-preserved
+    shape_of-numbers
     returns)

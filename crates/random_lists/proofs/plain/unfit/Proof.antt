@@ -4,34 +4,34 @@ use Rattle.std.proofs.Common.{◌-◌, ◌≤◌, arith, rules}
 use Rattle.random_lists.proofs.plain.unfit.Statement.{statement}
 use Rattle.random_lists.proofs.plain.unfit.Tie as tie
 
-abbrev invariant-loop : tie.invariant-loop-k
-invariant-loop dat p samples count₀ k₀ count k = k ≤ samples
+abbrev invariant-loop-k : tie.invariant-loop-k
+invariant-loop-k dat p samples count₀ k₀ count k = k ≤ samples
 
-abbrev decreases-loop : tie.decreases-loop-k
-decreases-loop dat p samples count₀ k₀ count k = samples - k
+abbrev decreases-loop-k : tie.decreases-loop-k
+decreases-loop-k dat p samples count₀ k₀ count k = samples - k
 
-quotient-requires : tie.Need-quotient-samples-requires invariant-loop decreases-loop
-quotient-requires c κs = search rules
+quotient-samples-requires : tie.Need-quotient-samples-requires invariant-loop-k decreases-loop-k
+quotient-samples-requires c κs = search rules
 
-loop-holds : tie.Need-loop-k-init invariant-loop decreases-loop
-loop-holds c = omega arith
+loop-k-init : tie.Need-loop-k-init invariant-loop-k decreases-loop-k
+loop-k-init c = omega arith
 
-with-sample-requires : tie.Need-with_sample-count-requires invariant-loop decreases-loop
-with-sample-requires c κs = search rules
+with_sample-count-requires : tie.Need-with_sample-count-requires invariant-loop-k decreases-loop-k
+with_sample-count-requires c κs = search rules
 
-add-k : tie.Need-overflow_step-k invariant-loop decreases-loop
-add-k c = omega arith
+overflow_step-k : tie.Need-overflow_step-k invariant-loop-k decreases-loop-k
+overflow_step-k c = omega arith
 
-loop-less : tie.Need-loop-k-smaller invariant-loop decreases-loop
-loop-less c = omega arith
+loop-k-smaller : tie.Need-loop-k-smaller invariant-loop-k decreases-loop-k
+loop-k-smaller c = omega arith
 
-loop-again : tie.Need-loop-k-preserved invariant-loop decreases-loop
-loop-again c = omega arith
+loop-k-preserved : tie.Need-loop-k-preserved invariant-loop-k decreases-loop-k
+loop-k-preserved c = omega arith
 
-returns : tie.Need-returns invariant-loop decreases-loop
+returns : tie.Need-returns invariant-loop-k decreases-loop-k
 returns c = search rules
 
 pub unfit_spec : {M : Type 1} → statement M
 unfit_spec =
     tie.close
-    (tie.spec invariant-loop decreases-loop quotient-requires loop-holds with-sample-requires add-k loop-less loop-again returns)
+    (tie.spec invariant-loop-k decreases-loop-k quotient-samples-requires loop-k-init with_sample-count-requires overflow_step-k loop-k-smaller loop-k-preserved returns)

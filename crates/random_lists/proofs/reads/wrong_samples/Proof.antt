@@ -4,31 +4,31 @@ use Rattle.std.proofs.Common.{◌-◌, ◌≤◌, arith, rules}
 use Rattle.random_lists.proofs.reads.wrong_samples.Statement.{statement}
 use Rattle.random_lists.proofs.reads.wrong_samples.Tie as tie
 
-abbrev invariant-loop : tie.invariant-loop-k
-invariant-loop p w bands numbers out samples wrong₀ k₀ wrong k = k ≤ samples
+abbrev invariant-loop-k : tie.invariant-loop-k
+invariant-loop-k p w bands numbers out samples wrong₀ k₀ wrong k = k ≤ samples
 
-abbrev decreases-loop : tie.decreases-loop-k
-decreases-loop p w bands numbers out samples wrong₀ k₀ wrong k = samples - k
+abbrev decreases-loop-k : tie.decreases-loop-k
+decreases-loop-k p w bands numbers out samples wrong₀ k₀ wrong k = samples - k
 
-loop-holds : tie.Need-loop-k-init invariant-loop decreases-loop
-loop-holds c = omega arith
+loop-k-init : tie.Need-loop-k-init invariant-loop-k decreases-loop-k
+loop-k-init c = omega arith
 
-with-sample-requires : tie.Need-with_sample-wrong-requires invariant-loop decreases-loop
-with-sample-requires c κs = search rules
+with_sample-wrong-requires : tie.Need-with_sample-wrong-requires invariant-loop-k decreases-loop-k
+with_sample-wrong-requires c κs = search rules
 
-add-k : tie.Need-overflow_step-k invariant-loop decreases-loop
-add-k c = omega arith
+overflow_step-k : tie.Need-overflow_step-k invariant-loop-k decreases-loop-k
+overflow_step-k c = omega arith
 
-loop-less : tie.Need-loop-k-smaller invariant-loop decreases-loop
-loop-less c = omega arith
+loop-k-smaller : tie.Need-loop-k-smaller invariant-loop-k decreases-loop-k
+loop-k-smaller c = omega arith
 
-loop-again : tie.Need-loop-k-preserved invariant-loop decreases-loop
-loop-again c = omega arith
+loop-k-preserved : tie.Need-loop-k-preserved invariant-loop-k decreases-loop-k
+loop-k-preserved c = omega arith
 
-returns : tie.Need-returns invariant-loop decreases-loop
+returns : tie.Need-returns invariant-loop-k decreases-loop-k
 returns c = search rules
 
 pub wrong_samples_spec : {M : Type 1} → statement M
 wrong_samples_spec =
     tie.close
-    (tie.spec invariant-loop decreases-loop loop-holds with-sample-requires add-k loop-less loop-again returns)
+    (tie.spec invariant-loop-k decreases-loop-k loop-k-init with_sample-wrong-requires overflow_step-k loop-k-smaller loop-k-preserved returns)

@@ -4,51 +4,51 @@ use Rattle.std.proofs.Common.{◌≡◌, ◌-◌, ◌≤◌, length, arith, rule
 use Rattle.random_lists.proofs.writes.fit.Statement.{statement}
 use Rattle.random_lists.proofs.writes.fit.Tie as tie
 
-abbrev invariant-loop : tie.invariant-loop-i
-invariant-loop p data₀ i₀ i-end «data» i = (i ≤ i-end) × (i-end ≡ length «data») × (length «data» ≡ length data₀)
+abbrev invariant-loop-i : tie.invariant-loop-i
+invariant-loop-i p data₀ i₀ i-end «data» i = (i ≤ i-end) × (i-end ≡ length «data») × (length «data» ≡ length data₀)
 
-abbrev decreases-loop : tie.decreases-loop-i
-decreases-loop p data₀ i₀ i-end «data» i = i-end - i
+abbrev decreases-loop-i : tie.decreases-loop-i
+decreases-loop-i p data₀ i₀ i-end «data» i = i-end - i
 
-loop-holds : tie.Need-loop-i-init invariant-loop decreases-loop
-loop-holds c = search rules
+loop-i-init : tie.Need-loop-i-init invariant-loop-i decreases-loop-i
+loop-i-init c = search rules
 
-slice-read-fitting : tie.Need-bounds-data-i invariant-loop decreases-loop
-slice-read-fitting c = omega arith
+bounds-data-i : tie.Need-bounds-data-i invariant-loop-i decreases-loop-i
+bounds-data-i c = omega arith
 
-fitting-requires : tie.Need-fitting-requires invariant-loop decreases-loop
+fitting-requires : tie.Need-fitting-requires invariant-loop-i decreases-loop-i
 fitting-requires c κs = search rules
 
-slice-write-data : tie.Need-bounds-data-i-in-loop-i invariant-loop decreases-loop
-slice-write-data c = omega arith
+bounds-data-i-in-loop-i : tie.Need-bounds-data-i-in-loop-i invariant-loop-i decreases-loop-i
+bounds-data-i-in-loop-i c = omega arith
 
-add-i : tie.Need-overflow_step-i invariant-loop decreases-loop
-add-i c = omega arith
+overflow_step-i : tie.Need-overflow_step-i invariant-loop-i decreases-loop-i
+overflow_step-i c = omega arith
 
-loop-less : tie.Need-loop-i-smaller invariant-loop decreases-loop
-loop-less c = omega arith
+loop-i-smaller : tie.Need-loop-i-smaller invariant-loop-i decreases-loop-i
+loop-i-smaller c = omega arith
 
-loop-again : tie.Need-loop-i-preserved invariant-loop decreases-loop
-loop-again c = search rules
+loop-i-preserved : tie.Need-loop-i-preserved invariant-loop-i decreases-loop-i
+loop-i-preserved c = search rules
 
-same_length : tie.Need-shape_of-data invariant-loop decreases-loop
-same_length c = c.loop-i.invariant.2
+shape_of-data : tie.Need-shape_of-data invariant-loop-i decreases-loop-i
+shape_of-data c = c.loop-i.invariant.2
 
-returns : tie.Need-returns invariant-loop decreases-loop
+returns : tie.Need-returns invariant-loop-i decreases-loop-i
 returns c = search rules
 
 pub fit_spec : {M : Type 1} → statement M
 fit_spec =
     tie.close
     (tie.spec
-    invariant-loop
-    decreases-loop
-    loop-holds
-    slice-read-fitting
+    invariant-loop-i
+    decreases-loop-i
+    loop-i-init
+    bounds-data-i
     fitting-requires
-    slice-write-data
-    add-i
-    loop-less
-    loop-again
-    same_length
+    bounds-data-i-in-loop-i
+    overflow_step-i
+    loop-i-smaller
+    loop-i-preserved
+    shape_of-data
     returns)

@@ -16,53 +16,53 @@ use Rattle.reading.proofs.whole.whole_number.Tie as tie
 accepted : (c : tie.Else-number-ne0) → Accepted c.args.grid
 accepted c = sym c.check-number.ensures ∙ c.if-number-ne0.false
 
-q6-yes : (c : tie.Else-not-has_block) → let a = c.args in q6 a.grid a.block_row a.block_col ≡ true
-q6-yes c = yes c.has_block.ensures c.if-not-has_block.false
+q6_yes : (c : tie.Else-not-has_block) → let a = c.args in q6 a.grid a.block_row a.block_col ≡ true
+q6_yes c = yes c.has_block.ensures c.if-not-has_block.false
 
-check-requires : tie.Need-check-number-requires
-check-requires c κs = search rules
+check-number-requires : tie.Need-check-number-requires
+check-number-requires c κs = search rules
 
-returns : tie.Need-returns-then-number-ne0
+returns-then-number-ne0 : tie.Need-returns-then-number-ne0
 unfolding whole_number
-returns c = c.check-number.ensures ∙ sym (grid-no _ _ (λ e. c.if-number-ne0.true (c.check-number.ensures ∙ e)))
+returns-then-number-ne0 c = c.check-number.ensures ∙ sym (grid-no _ _ (λ e. c.if-number-ne0.true (c.check-number.ensures ∙ e)))
 
-has-block-requires : tie.Need-has_block-requires
-has-block-requires c κs = search rules
+has_block-requires : tie.Need-has_block-requires
+has_block-requires c κs = search rules
 
-returns-2 : tie.Need-returns-then-not-has_block
+returns-then-not-has_block : tie.Need-returns-then-not-has_block
 unfolding whole_number
-returns-2 c = rw (grid-yes _ _ (accepted c.before.before), no c.has_block.ensures c.if-not-has_block.true)
+returns-then-not-has_block c = rw (grid-yes _ _ (accepted c.before.before), no c.has_block.ensures c.if-not-has_block.true)
 
-whole-block-requires : tie.Need-whole_block-block-requires
-whole-block-requires c κs = (accepted c.before.before, block_in _ _ _ (q6-yes c))
+whole_block-block-requires : tie.Need-whole_block-block-requires
+whole_block-block-requires c κs = (accepted c.before.before, block_in _ _ _ (q6_yes c))
 
-add-if3 : tie.Need-overflow_add-block
-add-if3 c =
+overflow_add-block : tie.Need-overflow_add-block
+overflow_add-block c =
     let b = c.before.before in
     rw c.whole_block-block.ensures
-    (omega (arith, whole_in _ _ _ (block_in _ _ _ (q6-yes b)), (facts _ (accepted b.before.before)).image-le))
+    (omega (arith, whole_in _ _ _ (block_in _ _ _ (q6_yes b)), (facts _ (accepted b.before.before)).image-le))
 
-returns-3 : tie.Need-returns-then-image-block
+returns-then-image-block : tie.Need-returns-then-image-block
 unfolding whole_number
-returns-3 c =
+returns-then-image-block c =
     let b = c.before.before.before in
-    rw (grid-yes _ _ (accepted b.before.before), q6-yes b, lt-leb _ _ (rw c.whole_block-block.ensures at c.if-image-block.true))
+    rw (grid-yes _ _ (accepted b.before.before), q6_yes b, lt-leb _ _ (rw c.whole_block-block.ensures at c.if-image-block.true))
 
-returns-4 : tie.Need-returns
+returns : tie.Need-returns
 unfolding whole_number
-returns-4 c =
+returns c =
     let b = c.before.before.before in
-    rw (grid-yes _ _ (accepted b.before.before), q6-yes b, le-leb _ _ (rw c.whole_block-block.ensures at c.if-image-block.false))
+    rw (grid-yes _ _ (accepted b.before.before), q6_yes b, le-leb _ _ (rw c.whole_block-block.ensures at c.if-image-block.false))
 
 pub whole_number_spec : {M : Type 1} → statement M
 whole_number_spec =
     tie.close
     (tie.spec
-    check-requires
-    returns
-    has-block-requires
-    returns-2
-    whole-block-requires
-    add-if3
-    returns-3
-    returns-4)
+    check-number-requires
+    returns-then-number-ne0
+    has_block-requires
+    returns-then-not-has_block
+    whole_block-block-requires
+    overflow_add-block
+    returns-then-image-block
+    returns)

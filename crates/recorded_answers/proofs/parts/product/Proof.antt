@@ -8,11 +8,11 @@ use Rattle.recorded_answers.proofs.parts.product.Tie as tie
 product_below : (a b : ℕ) → (a % 4294967296) * (b % 4294967296) ≤ 4294967295 * 4294967295
 product_below a b = mul-le-mul {n₂ = 4294967295} {m₂ = 4294967295} (omega arith) (omega arith)
 
-mul-result : tie.Need-overflow_mul-result
-mul-result c = omega (arith, product_below c.args.a c.args.b)
+overflow_mul-result : tie.Need-overflow_mul-result
+overflow_mul-result c = omega (arith, product_below c.args.a c.args.b)
 
 returns : tie.Need-returns
 returns c = search rules
 
 pub product_spec : {M : Type 1} → statement M
-product_spec = tie.close (tie.spec mul-result returns)
+product_spec = tie.close (tie.spec overflow_mul-result returns)

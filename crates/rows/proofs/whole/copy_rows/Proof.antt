@@ -11,47 +11,47 @@ use Rattle.rows.proofs.WholeBytes.{last_row, copied_row}
 use Rattle.rows.proofs.whole.copy_rows.Statement.{statement}
 use Rattle.rows.proofs.whole.copy_rows.Tie as tie
 
-abbrev invariant-loop : tie.invariant-loop-i
-invariant-loop src at row size count out₀ to line rows n i₀ out i =
+abbrev invariant-loop-i : tie.invariant-loop-i
+invariant-loop-i src at row size count out₀ to line rows n i₀ out i =
     (i ≤ rows) × (length out ≡ length out₀) × (out ≡ whole_rows src at row size size count to line i out₀)
 
-abbrev decreases-loop : tie.decreases-loop-i
-decreases-loop src at row size count out₀ to line rows n i₀ out i = rows - i
+abbrev decreases-loop-i : tie.decreases-loop-i
+decreases-loop-i src at row size count out₀ to line rows n i₀ out i = rows - i
 
 -- in a turn: row i ends within the rows
-ends_in : (c : tie.In-loop-i invariant-loop decreases-loop)
+ends_in : (c : tie.In-loop-i invariant-loop-i decreases-loop-i)
     → let a = c.args in Ends c.loop-i.i a.rows a.row a.line
 ends_in c = ends c.loop-i.i _ _ _ c.loop-i-test.true
 
-mul-n : tie.Need-overflow_mul-n invariant-loop decreases-loop
-mul-n c = omega (arith, c.requires.1, last_row _ c.args.line c.requires.0.0)
+overflow_mul-n : tie.Need-overflow_mul-n invariant-loop-i decreases-loop-i
+overflow_mul-n c = omega (arith, c.requires.1, last_row _ c.args.line c.requires.0.0)
 
-loop-holds : tie.Need-loop-i-init invariant-loop decreases-loop
-loop-holds c = (omega arith, refl, iter-none _ _)
+loop-i-init : tie.Need-loop-i-init invariant-loop-i decreases-loop-i
+loop-i-init c = (omega arith, refl, iter-none _ _)
 
-mul-copy : tie.Need-overflow_mul-i invariant-loop decreases-loop
-mul-copy c = omega (arith, ends_in c)
+overflow_mul-i : tie.Need-overflow_mul-i invariant-loop-i decreases-loop-i
+overflow_mul-i c = omega (arith, ends_in c)
 
-add-copy : tie.Need-overflow_add-at invariant-loop decreases-loop
-add-copy c = omega (arith, ends_in c)
+overflow_add-at : tie.Need-overflow_add-at invariant-loop-i decreases-loop-i
+overflow_add-at c = omega (arith, ends_in c)
 
-mul-copy-2 : tie.Need-overflow_mul-i-in-loop-i invariant-loop decreases-loop
-mul-copy-2 c = omega (arith, ends_in c.before)
+overflow_mul-i-in-loop-i : tie.Need-overflow_mul-i-in-loop-i invariant-loop-i decreases-loop-i
+overflow_mul-i-in-loop-i c = omega (arith, ends_in c.before)
 
-add-copy-2 : tie.Need-overflow_add-to invariant-loop decreases-loop
-add-copy-2 c = omega (arith, ends_in c.before)
+overflow_add-to : tie.Need-overflow_add-to invariant-loop-i decreases-loop-i
+overflow_add-to c = omega (arith, ends_in c.before)
 
-copy-requires : tie.Need-copy-requires invariant-loop decreases-loop
+copy-requires : tie.Need-copy-requires invariant-loop-i decreases-loop-i
 copy-requires c κs = omega (arith, ends_in c.before)
 
-add-i : tie.Need-overflow_step-i invariant-loop decreases-loop
-add-i c = omega arith
+overflow_step-i : tie.Need-overflow_step-i invariant-loop-i decreases-loop-i
+overflow_step-i c = omega arith
 
-loop-less : tie.Need-loop-i-smaller invariant-loop decreases-loop
-loop-less c = omega arith
+loop-i-smaller : tie.Need-loop-i-smaller invariant-loop-i decreases-loop-i
+loop-i-smaller c = omega arith
 
-loop-again : tie.Need-loop-i-preserved invariant-loop decreases-loop
-loop-again c =
+loop-i-preserved : tie.Need-loop-i-preserved invariant-loop-i decreases-loop-i
+loop-i-preserved c =
     let call = c.before.before in
     let turn = call.before.before in
     let head = turn.before in
@@ -63,10 +63,10 @@ loop-again c =
           (omega (arith, known.requires.0.1, ends_in turn)) call.copy.ensures),
     )
 
-same_length : tie.Need-shape_of-out invariant-loop decreases-loop
-same_length c = c.loop-i.invariant.1
+shape_of-out : tie.Need-shape_of-out invariant-loop-i decreases-loop-i
+shape_of-out c = c.loop-i.invariant.1
 
-returns : tie.Need-returns invariant-loop decreases-loop
+returns : tie.Need-returns invariant-loop-i decreases-loop-i
 returns c =
     let e : c.loop-i.i ≡ c.args.rows = omega arith in
     c.loop-i.invariant.2 ∙ rw e
@@ -74,5 +74,5 @@ returns c =
 pub copy_rows_spec : {M : Type 1} → statement M
 copy_rows_spec =
     tie.close
-    (tie.spec invariant-loop decreases-loop mul-n loop-holds mul-copy add-copy mul-copy-2 add-copy-2 copy-requires add-i loop-less
-    loop-again same_length returns)
+    (tie.spec invariant-loop-i decreases-loop-i overflow_mul-n loop-i-init overflow_mul-i overflow_add-at overflow_mul-i-in-loop-i overflow_add-to copy-requires overflow_step-i loop-i-smaller
+    loop-i-preserved shape_of-out returns)

@@ -15,16 +15,16 @@ use Rattle.rows.specs.Internal.Rows.{row_read}
 use Rattle.rows.proofs.whole.gather_rows_any.Statement.{statement}
 use Rattle.rows.proofs.whole.gather_rows_any.Tie as tie
 
-abbrev invariant-loop : tie.invariant-loop-i
-invariant-loop src at row step size count out₀ to line rows i₀ out i =
+abbrev invariant-loop-i : tie.invariant-loop-i
+invariant-loop-i src at row step size count out₀ to line rows i₀ out i =
     (i ≤ rows) × (length out ≡ length out₀)
     × (out ≡ iter i (row_read src (8 * at) (8 * row) (8 * step) (8 * size) size count to line) out₀)
 
-abbrev decreases-loop : tie.decreases-loop-i
-decreases-loop src at row step size count out₀ to line rows i₀ out i = rows - i
+abbrev decreases-loop-i : tie.decreases-loop-i
+decreases-loop-i src at row step size count out₀ to line rows i₀ out i = rows - i
 
 -- in a turn: row i ends within the rows; there is a sample
-ends_in : (c : tie.In-loop-i invariant-loop decreases-loop) → let a =
+ends_in : (c : tie.In-loop-i invariant-loop-i decreases-loop-i) → let a =
     c.args in Ends c.loop-i.i a.rows a.row a.line
     × (1 * a.step ≤ a.count * a.step)
 ends_in c =
@@ -34,32 +34,32 @@ ends_in c =
           c.requires.0.1,
     )
 
-loop-holds : tie.Need-loop-i-init invariant-loop decreases-loop
-loop-holds c = (omega arith, refl, iter-none _ _)
+loop-i-init : tie.Need-loop-i-init invariant-loop-i decreases-loop-i
+loop-i-init c = (omega arith, refl, iter-none _ _)
 
-mul-gather-any : tie.Need-overflow_mul-i invariant-loop decreases-loop
-mul-gather-any c = omega (arith, ends_in c)
+overflow_mul-i : tie.Need-overflow_mul-i invariant-loop-i decreases-loop-i
+overflow_mul-i c = omega (arith, ends_in c)
 
-add-gather-any : tie.Need-overflow_add-at invariant-loop decreases-loop
-add-gather-any c = omega (arith, ends_in c)
+overflow_add-at : tie.Need-overflow_add-at invariant-loop-i decreases-loop-i
+overflow_add-at c = omega (arith, ends_in c)
 
-mul-gather-any-2 : tie.Need-overflow_mul-i-in-loop-i invariant-loop decreases-loop
-mul-gather-any-2 c = omega (arith, ends_in c.before)
+overflow_mul-i-in-loop-i : tie.Need-overflow_mul-i-in-loop-i invariant-loop-i decreases-loop-i
+overflow_mul-i-in-loop-i c = omega (arith, ends_in c.before)
 
-add-gather-any-2 : tie.Need-overflow_add-to invariant-loop decreases-loop
-add-gather-any-2 c = omega (arith, ends_in c.before)
+overflow_add-to : tie.Need-overflow_add-to invariant-loop-i decreases-loop-i
+overflow_add-to c = omega (arith, ends_in c.before)
 
-gather-any-requires : tie.Need-gather_any-requires invariant-loop decreases-loop
-gather-any-requires c κs = omega (arith, ends_in c.before)
+gather_any-requires : tie.Need-gather_any-requires invariant-loop-i decreases-loop-i
+gather_any-requires c κs = omega (arith, ends_in c.before)
 
-add-i : tie.Need-overflow_step-i invariant-loop decreases-loop
-add-i c = omega arith
+overflow_step-i : tie.Need-overflow_step-i invariant-loop-i decreases-loop-i
+overflow_step-i c = omega arith
 
-loop-less : tie.Need-loop-i-smaller invariant-loop decreases-loop
-loop-less c = omega arith
+loop-i-smaller : tie.Need-loop-i-smaller invariant-loop-i decreases-loop-i
+loop-i-smaller c = omega arith
 
-loop-again : tie.Need-loop-i-preserved invariant-loop decreases-loop
-loop-again c =
+loop-i-preserved : tie.Need-loop-i-preserved invariant-loop-i decreases-loop-i
+loop-i-preserved c =
     let call = c.before.before in
     let a = call.args in (
       omega arith,
@@ -70,10 +70,10 @@ loop-again c =
           (values (spaced a.src.now p (8 * a.step) (8 * a.size)) a.size a.count)) (omega arith)),
     )
 
-same_length : tie.Need-shape_of-out invariant-loop decreases-loop
-same_length c = c.loop-i.invariant.1
+shape_of-out : tie.Need-shape_of-out invariant-loop-i decreases-loop-i
+shape_of-out c = c.loop-i.invariant.1
 
-returns : tie.Need-returns invariant-loop decreases-loop
+returns : tie.Need-returns invariant-loop-i decreases-loop-i
 returns c =
     let e : c.loop-i.i ≡ c.args.rows
     = omega arith in c.loop-i.invariant.2 ∙ rw e
@@ -81,5 +81,5 @@ returns c =
 pub gather_rows_any_spec : {M : Type 1} → statement M
 gather_rows_any_spec =
     tie.close
-    (tie.spec invariant-loop decreases-loop loop-holds mul-gather-any add-gather-any mul-gather-any-2 add-gather-any-2
-    gather-any-requires add-i loop-less loop-again same_length returns)
+    (tie.spec invariant-loop-i decreases-loop-i loop-i-init overflow_mul-i overflow_add-at overflow_mul-i-in-loop-i overflow_add-to
+    gather_any-requires overflow_step-i loop-i-smaller loop-i-preserved shape_of-out returns)

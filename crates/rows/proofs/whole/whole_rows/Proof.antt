@@ -5,24 +5,24 @@ use borrow.Author.Rules.{rules}
 use Rattle.rows.proofs.whole.whole_rows.Statement.{statement}
 use Rattle.rows.proofs.whole.whole_rows.Tie as tie
 
-copy-rows-requires : tie.Need-copy_rows-requires
-copy-rows-requires c κs = omega (arith, rw c.if-step-size.true at c.requires)
+copy_rows-requires : tie.Need-copy_rows-requires
+copy_rows-requires c κs = omega (arith, rw c.if-step-size.true at c.requires)
 
-gather-rows-requires : tie.Need-gather_rows-requires
-gather-rows-requires c κs = search rules
+gather_rows-requires : tie.Need-gather_rows-requires
+gather_rows-requires c κs = search rules
 
-same_length : tie.Need-shape_of-out-then-step-size
-same_length c = search rules
+shape_of-out-then-step-size : tie.Need-shape_of-out-then-step-size
+shape_of-out-then-step-size c = search rules
 
-returns : tie.Need-returns-then-step-size
-returns c = rw c.if-step-size.true c.copy_rows.ensures
+returns-then-step-size : tie.Need-returns-then-step-size
+returns-then-step-size c = rw c.if-step-size.true c.copy_rows.ensures
 
-same-length-2 : tie.Need-shape_of-out-else-step-size
-same-length-2 c = search rules
+shape_of-out-else-step-size : tie.Need-shape_of-out-else-step-size
+shape_of-out-else-step-size c = search rules
 
-returns-2 : tie.Need-returns-else-step-size
-returns-2 c = search rules
+returns-else-step-size : tie.Need-returns-else-step-size
+returns-else-step-size c = search rules
 
 pub whole_rows_spec : {M : Type 1} → statement M
 whole_rows_spec =
-    tie.close (tie.spec copy-rows-requires gather-rows-requires same_length returns same-length-2 returns-2)
+    tie.close (tie.spec copy_rows-requires gather_rows-requires shape_of-out-then-step-size returns-then-step-size shape_of-out-else-step-size returns-else-step-size)

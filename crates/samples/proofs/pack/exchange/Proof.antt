@@ -16,39 +16,39 @@ use Rattle.samples.proofs.pack.exchange.Tie as tie
 above : (x k : ℕ) → x < 2 ^ 64 → k < 64 → x / 2 ^ k < 2 ^ (64 - k)
 above x k h l = let e : 64 - k + k ≡ 64 = omega arith in shr_lt (64 - k) k (rw e h)
 
-above-field : (x k n v : ℕ) → x < 2 ^ 64 → k + n < 64 → v < 2 ^ n → x / 2 ^ (k + n) * 2 ^ n + v < 2 ^ (64 - k)
-above-field x k n v h l lv =
+above_field : (x k n v : ℕ) → x < 2 ^ 64 → k + n < 64 → v < 2 ^ n → x / 2 ^ (k + n) * 2 ^ n + v < 2 ^ (64 - k)
+above_field x k n v h l lv =
     let e : 64 - k ≡ 64 - (k + n) + n = omega arith in
     rw (e, pow-add 2 (64 - (k + n)) n) (digits_lt (above x (k + n) h l) lv)
 
 below : (x k : ℕ) → k < 64 → bit_and x (1 * 2 ^ k % 2 ^ 64 - 1) ≡ x % 2 ^ k
 below x k h = rw (one_shl k h) (and_mask x k)
 
-add-append : tie.Need-overflow_add-low
-add-append c = search rules
+overflow_add-low : tie.Need-overflow_add-low
+overflow_add-low c = search rules
 
-shr-append : tie.Need-overflow_shr-x
-shr-append c = search rules
+overflow_shr-x : tie.Need-overflow_shr-x
+overflow_shr-x c = search rules
 
-append-requires : tie.Need-append-high-requires
-append-requires c κs =
+append-high-requires : tie.Need-append-high-requires
+append-high-requires c κs =
     let a = c.args in (
       omega arith,
       lt_of_lt_of_le (above a.x (a.low + a.width) (omega arith) (omega arith)) (pow_mono {i = 64 - (a.low + a.width)} {j = 64 - a.width} (omega arith)),
       c.requires.1,
     )
 
-shl-append : tie.Need-overflow_shl-low
-shl-append c = search rules
+overflow_shl-low : tie.Need-overflow_shl-low
+overflow_shl-low c = search rules
 
-sub-append : tie.Need-overflow_sub-low
-sub-append c = let k : ℕ = c.args.low in rw (one_shl k (omega arith)) (pow_pos k)
+overflow_sub-low : tie.Need-overflow_sub-low
+overflow_sub-low c = let k : ℕ = c.args.low in rw (one_shl k (omega arith)) (pow_pos k)
 
-append-requires-2 : tie.Need-append-requires
-append-requires-2 c κs =
+append-requires : tie.Need-append-requires
+append-requires c κs =
     let a = c.args in (
       omega arith,
-      rw c.append-high.ensures (above-field a.x a.low a.width a.v (omega arith) (omega arith) c.requires.1),
+      rw c.append-high.ensures (above_field a.x a.low a.width a.v (omega arith) (omega arith) c.requires.1),
       rw (one_shl a.low (omega arith)) (mask_lt a.x a.low),
     )
 
@@ -61,4 +61,4 @@ returns c =
 pub exchange_spec : {M : Type 1} → statement M
 exchange_spec =
     tie.close
-    (tie.spec add-append shr-append append-requires shl-append sub-append append-requires-2 returns)
+    (tie.spec overflow_add-low overflow_shr-x append-high-requires overflow_shl-low overflow_sub-low append-requires returns)

@@ -18,20 +18,20 @@ groups_in c =
     let a = c.args in
     groups a.count g a.size a.width (g * a.width / 8) (omega (arith, c.group_of-group.ensures))
 
-group-of-requires : tie.Need-group_of-group-requires
-group-of-requires c κs = search rules
+group_of-group-requires : tie.Need-group_of-group-requires
+group_of-group-requires c κs = search rules
 
-mul-bytes : tie.Need-overflow_mul-bytes
-mul-bytes c = search rules
+overflow_mul-bytes : tie.Need-overflow_mul-bytes
+overflow_mul-bytes c = search rules
 
-div-n : tie.Need-nonzero_div-n
-div-n c = search rules
+nonzero_div-n : tie.Need-nonzero_div-n
+nonzero_div-n c = search rules
 
-mul-done : tie.Need-overflow_mul-done
-mul-done c = omega (arith, groups_in c)
+overflow_mul-done : tie.Need-overflow_mul-done
+overflow_mul-done c = omega (arith, groups_in c)
 
-pack-groups-requires : tie.Need-pack_groups-requires
-pack-groups-requires c κs =
+pack_groups-requires : tie.Need-pack_groups-requires
+pack_groups-requires c κs =
     let there = c.before in
     let few : there.group_of-group.result * there.args.width / 8 ≤ 8 = there.if-bytes-le8.true in
     let p = there.requires in
@@ -39,23 +39,23 @@ pack-groups-requires c κs =
     let g = groups_in there in
     (omega arith, (omega arith, λ k h. p.1.1 k (omega arith)))
 
-mul-pack-each : tie.Need-overflow_mul-done-then-bytes-le8
-mul-pack-each c = omega (arith, groups_in c.before.before.before.before)
+overflow_mul-done-then-bytes-le8 : tie.Need-overflow_mul-done-then-bytes-le8
+overflow_mul-done-then-bytes-le8 c = omega (arith, groups_in c.before.before.before.before)
 
-add-pack-each : tie.Need-overflow_add-from
-add-pack-each c = omega (arith, groups_in c.before.before.before.before)
+overflow_add-from : tie.Need-overflow_add-from
+overflow_add-from c = omega (arith, groups_in c.before.before.before.before)
 
-mul-pack-each-2 : tie.Need-overflow_mul-done-then-bytes-le8-2
-mul-pack-each-2 c = omega (arith, groups_in c.before.before.before.before.before)
+overflow_mul-done-then-bytes-le8-2 : tie.Need-overflow_mul-done-then-bytes-le8-2
+overflow_mul-done-then-bytes-le8-2 c = omega (arith, groups_in c.before.before.before.before.before)
 
-add-pack-each-2 : tie.Need-overflow_add-at
-add-pack-each-2 c = omega (arith, groups_in c.before.before.before.before.before)
+overflow_add-at : tie.Need-overflow_add-at
+overflow_add-at c = omega (arith, groups_in c.before.before.before.before.before)
 
-sub-pack-each : tie.Need-overflow_sub-count
-sub-pack-each c = (groups_in c.before.before.before.before.before).0
+overflow_sub-count : tie.Need-overflow_sub-count
+overflow_sub-count c = (groups_in c.before.before.before.before.before).0
 
-pack-each-requires : tie.Need-pack_each-requires
-pack-each-requires c κs =
+pack_each-requires : tie.Need-pack_each-requires
+pack_each-requires c κs =
     let first = c.before.before.before in
     let there = first.before.before in
     let p = there.requires in
@@ -63,14 +63,14 @@ pack-each-requires c κs =
     let e = first.pack_groups.auto in
     (omega arith, (omega arith, fit-part _ there.args.from there.args.size _ there.args.count _ _ p.1.1 (omega arith) refl))
 
-pack-each-requires-2 : tie.Need-pack_each-requires-else-at-eq0
-pack-each-requires-2 c κs = (omega arith, (omega arith, c.requires.1.1))
+pack_each-requires-else-at-eq0 : tie.Need-pack_each-requires-else-at-eq0
+pack_each-requires-else-at-eq0 c κs = (omega arith, (omega arith, c.requires.1.1))
 
-same_length : tie.Need-shape_of-img-then-bytes-le8
-same_length c = search rules
+shape_of-img-then-bytes-le8 : tie.Need-shape_of-img-then-bytes-le8
+shape_of-img-then-bytes-le8 c = search rules
 
-returns : tie.Need-returns-then-bytes-le8
-returns c =
+returns-then-bytes-le8 : tie.Need-returns-then-bytes-le8
+returns-then-bytes-le8 c =
     let rest = c.before.before in
     let first = rest.before.before.before.before in
     let there = first.before.before in
@@ -80,29 +80,29 @@ returns c =
     put_rest a.dat.now a.from a.size a.width a.at a.width (a.count / g * g) a.count a.img.now (groups_in there).0
     (rw e at first.pack_groups.ensures) rest.pack_each.ensures
 
-same-length-2 : tie.Need-shape_of-img-else-at-eq0
-same-length-2 c = search rules
+shape_of-img-else-at-eq0 : tie.Need-shape_of-img-else-at-eq0
+shape_of-img-else-at-eq0 c = search rules
 
-returns-2 : tie.Need-returns-else-at-eq0
-returns-2 c = search rules
+returns-else-at-eq0 : tie.Need-returns-else-at-eq0
+returns-else-at-eq0 c = search rules
 
 pub pack_grouped_spec : {M : Type 1} → statement M
 pack_grouped_spec =
     tie.close
     (tie.spec
-    group-of-requires
-    mul-bytes
-    div-n
-    mul-done
-    pack-groups-requires
-    mul-pack-each
-    add-pack-each
-    mul-pack-each-2
-    add-pack-each-2
-    sub-pack-each
-    pack-each-requires
-    pack-each-requires-2
-    same_length
-    returns
-    same-length-2
-    returns-2)
+    group_of-group-requires
+    overflow_mul-bytes
+    nonzero_div-n
+    overflow_mul-done
+    pack_groups-requires
+    overflow_mul-done-then-bytes-le8
+    overflow_add-from
+    overflow_mul-done-then-bytes-le8-2
+    overflow_add-at
+    overflow_sub-count
+    pack_each-requires
+    pack_each-requires-else-at-eq0
+    shape_of-img-then-bytes-le8
+    returns-then-bytes-le8
+    shape_of-img-else-at-eq0
+    returns-else-at-eq0)

@@ -13,70 +13,70 @@ pairs_in c =
     let g : c.args.group ≡ 2 = c.if-group-eq2.true in
     (c.if-size-eq2.true, w, g, omega (arith, rw (w, g) at c.requires))
 
-pack-groups-any-requires : tie.Need-pack_groups_any-requires
-pack-groups-any-requires c κs =
+pack_groups_any-requires : tie.Need-pack_groups_any-requires
+pack_groups_any-requires c κs =
     let pairs = c.before in
     let p = pairs_in pairs in
     rw (p.0, p.1, p.2, p.3) at pairs.requires
 
-same_length : tie.Need-shape_of-img-then-group-eq2
-same_length c = search rules
+shape_of-img-then-group-eq2 : tie.Need-shape_of-img-then-group-eq2
+shape_of-img-then-group-eq2 c = search rules
 
-returns : tie.Need-returns-then-group-eq2
-returns c = let p = pairs_in c.before.before.before.before in rw (p.0, p.1, p.2) c.pack_groups_any.ensures
+returns-then-group-eq2 : tie.Need-returns-then-group-eq2
+returns-then-group-eq2 c = let p = pairs_in c.before.before.before.before in rw (p.0, p.1, p.2) c.pack_groups_any.ensures
 
-pack-groups-any-requires-2 : tie.Need-pack_groups_any-requires-in-1
-pack-groups-any-requires-2 c κs = rw c.in-1.is at c.requires
+pack_groups_any-requires-in-1 : tie.Need-pack_groups_any-requires-in-1
+pack_groups_any-requires-in-1 c κs = rw c.in-1.is at c.requires
 
-pack-groups-any-requires-3 : tie.Need-pack_groups_any-requires-in-2
-pack-groups-any-requires-3 c κs = rw c.in-2.is at c.requires
+pack_groups_any-requires-in-2 : tie.Need-pack_groups_any-requires-in-2
+pack_groups_any-requires-in-2 c κs = rw c.in-2.is at c.requires
 
-pack-groups-any-requires-4 : tie.Need-pack_groups_any-requires-in-4
-pack-groups-any-requires-4 c κs = rw c.in-4.is at c.requires
+pack_groups_any-requires-in-4 : tie.Need-pack_groups_any-requires-in-4
+pack_groups_any-requires-in-4 c κs = rw c.in-4.is at c.requires
 
-pack-groups-any-requires-5 : tie.Need-pack_groups_any-requires-in_default
-pack-groups-any-requires-5 c κs = search rules
+pack_groups_any-requires-in_default : tie.Need-pack_groups_any-requires-in_default
+pack_groups_any-requires-in_default c κs = search rules
 
-same-length-2 : tie.Need-shape_of-img-in-1
-same-length-2 c = search rules
+shape_of-img-in-1 : tie.Need-shape_of-img-in-1
+shape_of-img-in-1 c = search rules
 
-returns-2 : tie.Need-returns-in-1
-returns-2 c = cc
+returns-in-1 : tie.Need-returns-in-1
+returns-in-1 c = cc
 
-same-length-3 : tie.Need-shape_of-img-in-2
-same-length-3 c = search rules
+shape_of-img-in-2 : tie.Need-shape_of-img-in-2
+shape_of-img-in-2 c = search rules
 
-returns-3 : tie.Need-returns-in-2
-returns-3 c = cc
+returns-in-2 : tie.Need-returns-in-2
+returns-in-2 c = cc
 
-same-length-4 : tie.Need-shape_of-img-in-4
-same-length-4 c = search rules
+shape_of-img-in-4 : tie.Need-shape_of-img-in-4
+shape_of-img-in-4 c = search rules
 
-returns-4 : tie.Need-returns-in-4
-returns-4 c = cc
+returns-in-4 : tie.Need-returns-in-4
+returns-in-4 c = cc
 
-same-length-5 : tie.Need-shape_of-img-in_default
-same-length-5 c = search rules
+shape_of-img-in_default : tie.Need-shape_of-img-in_default
+shape_of-img-in_default c = search rules
 
-returns-5 : tie.Need-returns-in_default
-returns-5 c = search rules
+returns-in_default : tie.Need-returns-in_default
+returns-in_default c = search rules
 
 pub pack_groups_spec : {M : Type 1} → statement M
 pack_groups_spec =
     tie.close
     (tie.spec
-    pack-groups-any-requires
-    same_length
-    returns
-    pack-groups-any-requires-2
-    pack-groups-any-requires-3
-    pack-groups-any-requires-4
-    pack-groups-any-requires-5
-    same-length-2
-    returns-2
-    same-length-3
-    returns-3
-    same-length-4
-    returns-4
-    same-length-5
-    returns-5)
+    pack_groups_any-requires
+    shape_of-img-then-group-eq2
+    returns-then-group-eq2
+    pack_groups_any-requires-in-1
+    pack_groups_any-requires-in-2
+    pack_groups_any-requires-in-4
+    pack_groups_any-requires-in_default
+    shape_of-img-in-1
+    returns-in-1
+    shape_of-img-in-2
+    returns-in-2
+    shape_of-img-in-4
+    returns-in-4
+    shape_of-img-in_default
+    returns-in_default)

@@ -11,39 +11,39 @@ use Rattle.samples.proofs.pack.pack_side_by_side.Tie as tie
 parts_in : (c : tie.After-before_byte-head) → let a = c.args in Parts c.before_byte-head.result a.count a.size a.width
 parts_in c = let a = c.args in parts c.before_byte-head.result a.count a.size a.width c.before_byte-head.ensures
 
-before-byte-requires : tie.Need-before_byte-head-requires
-before-byte-requires c κs = search rules
+before_byte-head-requires : tie.Need-before_byte-head-requires
+before_byte-head-requires c κs = search rules
 
-pack-each-requires : tie.Need-pack_each-requires
-pack-each-requires c κs =
+pack_each-requires : tie.Need-pack_each-requires
+pack_each-requires c κs =
     let q = parts_in c.before in
     (omega arith, (omega arith, λ k h. c.requires.1.1 k (omega arith)))
 
-mul-pack-grouped : tie.Need-overflow_mul-head
-mul-pack-grouped c = omega (arith, parts_in c.before.before.before.before)
+overflow_mul-head : tie.Need-overflow_mul-head
+overflow_mul-head c = omega (arith, parts_in c.before.before.before.before)
 
-add-pack-grouped : tie.Need-overflow_add-from
-add-pack-grouped c = omega (arith, parts_in c.before.before.before.before)
+overflow_add-from : tie.Need-overflow_add-from
+overflow_add-from c = omega (arith, parts_in c.before.before.before.before)
 
-mul-pack-grouped-2 : tie.Need-overflow_mul-head-2
-mul-pack-grouped-2 c = omega (arith, parts_in c.before.before.before.before.before)
+overflow_mul-head-2 : tie.Need-overflow_mul-head-2
+overflow_mul-head-2 c = omega (arith, parts_in c.before.before.before.before.before)
 
-add-pack-grouped-2 : tie.Need-overflow_add-at
-add-pack-grouped-2 c = omega (arith, parts_in c.before.before.before.before.before)
+overflow_add-at : tie.Need-overflow_add-at
+overflow_add-at c = omega (arith, parts_in c.before.before.before.before.before)
 
-sub-pack-grouped : tie.Need-overflow_sub-count
-sub-pack-grouped c = search rules
+overflow_sub-count : tie.Need-overflow_sub-count
+overflow_sub-count c = search rules
 
-pack-grouped-requires : tie.Need-pack_grouped-requires
-pack-grouped-requires c κs =
+pack_grouped-requires : tie.Need-pack_grouped-requires
+pack_grouped-requires c κs =
     let first = c.before.before.before in
     let p = first.requires in
     let q = parts_in first.before.before in
     let l = first.pack_each.auto in
     (omega arith, (omega arith, fit-part _ first.args.from first.args.size _ first.args.count _ _ p.1.1 (omega arith) refl))
 
-same_length : tie.Need-shape_of-img
-same_length c = search rules
+shape_of-img : tie.Need-shape_of-img
+shape_of-img c = search rules
 
 returns : tie.Need-returns
 returns c =
@@ -57,13 +57,13 @@ pub pack_side_by_side_spec : {M : Type 1} → statement M
 pack_side_by_side_spec =
     tie.close
     (tie.spec
-    before-byte-requires
-    pack-each-requires
-    mul-pack-grouped
-    add-pack-grouped
-    mul-pack-grouped-2
-    add-pack-grouped-2
-    sub-pack-grouped
-    pack-grouped-requires
-    same_length
+    before_byte-head-requires
+    pack_each-requires
+    overflow_mul-head
+    overflow_add-from
+    overflow_mul-head-2
+    overflow_add-at
+    overflow_sub-count
+    pack_grouped-requires
+    shape_of-img
     returns)

@@ -8,26 +8,26 @@ use borrow.Author.Rules.{rules}
 use Rattle.samples.proofs.pack.put_packed.Statement.{statement}
 use Rattle.samples.proofs.pack.put_packed.Tie as tie
 
-get-be-requires : tie.Need-get_be-x-requires
-get-be-requires c κs = search rules
+get_be-x-requires : tie.Need-get_be-x-requires
+get_be-x-requires c κs = search rules
 
-mul-exchange : tie.Need-overflow_mul-n
-mul-exchange c = search rules
+overflow_mul-n : tie.Need-overflow_mul-n
+overflow_mul-n c = search rules
 
-sub-exchange : tie.Need-overflow_sub-n
-sub-exchange c = search rules
+overflow_sub-n : tie.Need-overflow_sub-n
+overflow_sub-n c = search rules
 
-sub-exchange-2 : tie.Need-overflow_sub-n-2
-sub-exchange-2 c = search rules
+overflow_sub-n-2 : tie.Need-overflow_sub-n-2
+overflow_sub-n-2 c = search rules
 
 exchange-requires : tie.Need-exchange-requires
 exchange-requires c κs = search rules
 
-put-be-requires : tie.Need-put_be-requires
-put-be-requires c κs = search rules
+put_be-requires : tie.Need-put_be-requires
+put_be-requires c κs = search rules
 
-same_length : tie.Need-shape_of-img
-same_length c = search rules
+shape_of-img : tie.Need-shape_of-img
+shape_of-img c = search rules
 
 returns : tie.Need-returns
 returns c =
@@ -42,11 +42,11 @@ pub put_packed_spec : {M : Type 1} → statement M
 put_packed_spec =
     tie.close
     (tie.spec
-    get-be-requires
-    mul-exchange
-    sub-exchange
-    sub-exchange-2
+    get_be-x-requires
+    overflow_mul-n
+    overflow_sub-n
+    overflow_sub-n-2
     exchange-requires
-    put-be-requires
-    same_length
+    put_be-requires
+    shape_of-img
     returns)

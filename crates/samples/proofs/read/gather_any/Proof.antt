@@ -10,66 +10,66 @@ use Rattle.bits.proofs.Values.{values-none, values-turn}
 use Rattle.samples.proofs.read.gather_any.Statement.{statement}
 use Rattle.samples.proofs.read.gather_any.Tie as tie
 
-abbrev invariant-loop : tie.invariant-loop-k
-invariant-loop src at step size count out₀ to k₀ out k = So-far (samples_read src (8 * at) (8 * step) (8 * size) size k to out₀) out (length out₀) count step size k
+abbrev invariant-loop-k : tie.invariant-loop-k
+invariant-loop-k src at step size count out₀ to k₀ out k = So-far (samples_read src (8 * at) (8 * step) (8 * size) size k to out₀) out (length out₀) count step size k
 
-abbrev decreases-loop : tie.decreases-loop-k
-decreases-loop src at step size count out₀ to k₀ out k = count - k
+abbrev decreases-loop-k : tie.decreases-loop-k
+decreases-loop-k src at step size count out₀ to k₀ out k = count - k
 
-loop-holds : tie.Need-loop-k-init invariant-loop decreases-loop
-loop-holds c = none_yet (omega arith) (values-none _ _ _ _)
+loop-k-init : tie.Need-loop-k-init invariant-loop-k decreases-loop-k
+loop-k-init c = none_yet (omega arith) (values-none _ _ _ _)
 
-mul-get-be : tie.Need-overflow_mul-k invariant-loop decreases-loop
-mul-get-be c = omega arith
+overflow_mul-k : tie.Need-overflow_mul-k invariant-loop-k decreases-loop-k
+overflow_mul-k c = omega arith
 
-add-get-be : tie.Need-overflow_add-at invariant-loop decreases-loop
-add-get-be c = omega arith
+overflow_add-at : tie.Need-overflow_add-at invariant-loop-k decreases-loop-k
+overflow_add-at c = omega arith
 
-get-be-requires : tie.Need-get_be-v-requires invariant-loop decreases-loop
-get-be-requires c κs = omega arith
+get_be-v-requires : tie.Need-get_be-v-requires invariant-loop-k decreases-loop-k
+get_be-v-requires c κs = omega arith
 
-mul-put-be : tie.Need-overflow_mul-k-in-loop-k invariant-loop decreases-loop
-mul-put-be c = omega arith
+overflow_mul-k-in-loop-k : tie.Need-overflow_mul-k-in-loop-k invariant-loop-k decreases-loop-k
+overflow_mul-k-in-loop-k c = omega arith
 
-add-put-be : tie.Need-overflow_add-to invariant-loop decreases-loop
-add-put-be c = omega arith
+overflow_add-to : tie.Need-overflow_add-to invariant-loop-k decreases-loop-k
+overflow_add-to c = omega arith
 
-put-be-requires : tie.Need-put_be-requires invariant-loop decreases-loop
-put-be-requires c κs = omega arith
+put_be-requires : tie.Need-put_be-requires invariant-loop-k decreases-loop-k
+put_be-requires c κs = omega arith
 
-add-k : tie.Need-overflow_step-k invariant-loop decreases-loop
-add-k c = omega arith
+overflow_step-k : tie.Need-overflow_step-k invariant-loop-k decreases-loop-k
+overflow_step-k c = omega arith
 
-loop-less : tie.Need-loop-k-smaller invariant-loop decreases-loop
-loop-less c = omega arith
+loop-k-smaller : tie.Need-loop-k-smaller invariant-loop-k decreases-loop-k
+loop-k-smaller c = omega arith
 
-loop-again : tie.Need-loop-k-preserved invariant-loop decreases-loop
-loop-again c =
+loop-k-preserved : tie.Need-loop-k-preserved invariant-loop-k decreases-loop-k
+loop-k-preserved c =
     let put = c.before.before in let got = put.before.before in one_more got.loop-k.invariant (omega (arith, put.put_be.auto))
     (values-turn _ _ _ _ _ (omega arith) got.loop-k.invariant.1
     (got.get_be-v.ensures ∙ spaced-bytes _ _ _ _ _ (λ i. (got.shared_slice_known-1.given i).fits)) put.put_be.ensures)
 
-same_length : tie.Need-shape_of-out invariant-loop decreases-loop
-same_length c = omega arith
+shape_of-out : tie.Need-shape_of-out invariant-loop-k decreases-loop-k
+shape_of-out c = omega arith
 
-returns : tie.Need-returns invariant-loop decreases-loop
+returns : tie.Need-returns invariant-loop-k decreases-loop-k
 returns c = let e : c.loop-k.k ≡ c.args.count = omega arith in c.loop-k.invariant.1 ∙ rw e
 
 pub gather_any_spec : {M : Type 1} → statement M
 gather_any_spec =
     tie.close
     (tie.spec
-    invariant-loop
-    decreases-loop
-    loop-holds
-    mul-get-be
-    add-get-be
-    get-be-requires
-    mul-put-be
-    add-put-be
-    put-be-requires
-    add-k
-    loop-less
-    loop-again
-    same_length
+    invariant-loop-k
+    decreases-loop-k
+    loop-k-init
+    overflow_mul-k
+    overflow_add-at
+    get_be-v-requires
+    overflow_mul-k-in-loop-k
+    overflow_add-to
+    put_be-requires
+    overflow_step-k
+    loop-k-smaller
+    loop-k-preserved
+    shape_of-out
     returns)

@@ -11,51 +11,51 @@ use Rattle.samples.proofs.unpack.count_by_eight.Tie as tie
 most_in : (c : tie.Else-count-le64) → let a = c.args in (a.count - 64) * a.step ≤ a.count * a.step
 most_in c = let a = c.args in mul-le-mul_right a.step (let h : a.count - 64 ≤ a.count = omega arith in h)
 
-mul-if1 : tie.Need-overflow_mul-count
-mul-if1 c = search rules
+overflow_mul-count : tie.Need-overflow_mul-count
+overflow_mul-count c = search rules
 
-add-if1 : tie.Need-overflow_add-at
-add-if1 c = search rules
+overflow_add-at : tie.Need-overflow_add-at
+overflow_add-at c = search rules
 
-add-if1-2 : tie.Need-overflow_add-at-2
-add-if1-2 c = search rules
+overflow_add-at-2 : tie.Need-overflow_add-at-2
+overflow_add-at-2 c = search rules
 
-returns : tie.Need-returns-then-at-count
-returns c = search rules
+returns-then-at-count : tie.Need-returns-then-at-count
+returns-then-at-count c = search rules
 
-returns-2 : tie.Need-returns-then-count-le64
-returns-2 c = search rules
+returns-then-count-le64 : tie.Need-returns-then-count-le64
+returns-then-count-le64 c = search rules
 
-sub-most : tie.Need-overflow_sub-most
-sub-most c = search rules
+overflow_sub-most : tie.Need-overflow_sub-most
+overflow_sub-most c = search rules
 
-mul-if3 : tie.Need-overflow_mul-most
-mul-if3 c = omega (arith, most_in c)
+overflow_mul-most : tie.Need-overflow_mul-most
+overflow_mul-most c = omega (arith, most_in c)
 
-add-if3 : tie.Need-overflow_add-at-3
-add-if3 c = omega (arith, most_in c)
+overflow_add-at-3 : tie.Need-overflow_add-at-3
+overflow_add-at-3 c = omega (arith, most_in c)
 
-add-if3-2 : tie.Need-overflow_add-at-4
-add-if3-2 c = omega (arith, most_in c)
+overflow_add-at-4 : tie.Need-overflow_add-at-4
+overflow_add-at-4 c = omega (arith, most_in c)
 
-returns-3 : tie.Need-returns-then-at-most
-returns-3 c = search rules
+returns-then-at-most : tie.Need-returns-then-at-most
+returns-then-at-most c = search rules
 
-returns-4 : tie.Need-returns-else-at-most
-returns-4 c = search rules
+returns-else-at-most : tie.Need-returns-else-at-most
+returns-else-at-most c = search rules
 
 pub count_by_eight_spec : {M : Type 1} → statement M
 count_by_eight_spec =
     tie.close
     (tie.spec
-    mul-if1
-    add-if1
-    add-if1-2
-    returns
-    returns-2
-    sub-most
-    mul-if3
-    add-if3
-    add-if3-2
-    returns-3
-    returns-4)
+    overflow_mul-count
+    overflow_add-at
+    overflow_add-at-2
+    returns-then-at-count
+    returns-then-count-le64
+    overflow_sub-most
+    overflow_mul-most
+    overflow_add-at-3
+    overflow_add-at-4
+    returns-then-at-most
+    returns-else-at-most)

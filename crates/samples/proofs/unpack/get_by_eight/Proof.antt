@@ -18,23 +18,23 @@ masked : (xs : List ℕ) (at w x : ℕ) → Bytes xs → w ≤ 57 → x ≡ be_a
 masked xs at w x b h e =
     rw (one_shl w (omega arith), e) (and_mask (be_at xs (at / 8) 8 / 2 ^ ((64 - at % 8 - w) % 64)) w ∙ packed xs at w b (omega arith))
 
-get-be-requires : tie.Need-get_be-x-requires
-get-be-requires c κs = search rules
+get_be-x-requires : tie.Need-get_be-x-requires
+get_be-x-requires c κs = search rules
 
-sub-result : tie.Need-overflow_sub-result
-sub-result c = search rules
+overflow_sub-result : tie.Need-overflow_sub-result
+overflow_sub-result c = search rules
 
-sub-result-2 : tie.Need-overflow_sub-result-2
-sub-result-2 c = search rules
+overflow_sub-result-2 : tie.Need-overflow_sub-result-2
+overflow_sub-result-2 c = search rules
 
-shr-result : tie.Need-overflow_shr-result
-shr-result c = search rules
+overflow_shr-result : tie.Need-overflow_shr-result
+overflow_shr-result c = search rules
 
-shl-result : tie.Need-overflow_shl-result
-shl-result c = search rules
+overflow_shl-result : tie.Need-overflow_shl-result
+overflow_shl-result c = search rules
 
-sub-result-3 : tie.Need-overflow_sub-result-3
-sub-result-3 c = let w : ℕ = c.args.width in rw (one_shl w (omega arith)) (pow_pos w)
+overflow_sub-result-3 : tie.Need-overflow_sub-result-3
+overflow_sub-result-3 c = let w : ℕ = c.args.width in rw (one_shl w (omega arith)) (pow_pos w)
 
 returns : tie.Need-returns
 returns c =
@@ -44,4 +44,4 @@ returns c =
 pub get_by_eight_spec : {M : Type 1} → statement M
 get_by_eight_spec =
     tie.close
-    (tie.spec get-be-requires sub-result sub-result-2 shr-result shl-result sub-result-3 returns)
+    (tie.spec get_be-x-requires overflow_sub-result overflow_sub-result-2 overflow_shr-result overflow_shl-result overflow_sub-result-3 returns)

@@ -17,9 +17,9 @@ parts : (m n s : ℕ) → m ≤ n → m * s + (n - m) * s ≡ n * s
 parts m n s h = sym (add-mul m (n - m) s) ∙ ap (λ (k : ℕ). k * s) (add-sub_of_le h)
 
 -- sample j of the rest
-spaced-rest : (xs : List ℕ) (at step w m j : ℕ) → spaced xs (at + m * step) step w j ≡ spaced xs at step w (m + j)
+spaced_rest : (xs : List ℕ) (at step w m j : ℕ) → spaced xs (at + m * step) step w j ≡ spaced xs at step w (m + j)
 unfolding spaced
-spaced-rest xs at step w m j = ap (λ (i : ℕ). bits_at xs i w) (omega (arith, add-mul m j step))
+spaced_rest xs at step w m j = ap (λ (i : ℕ). bits_at xs i w) (omega (arith, add-mul m j step))
 
 -- both runs are cut in two
 abbrev Cut : ℕ → ℕ → ℕ → ℕ → Type 0
@@ -32,34 +32,34 @@ cut_in c =
     let h : m ≤ a.count = c.count_by_eight-most.ensures.0 in
     (h, parts m a.count a.step h, parts m a.count a.size h)
 
-count-by-eight-requires : tie.Need-count_by_eight-most-requires
-count-by-eight-requires c κs = search rules
+count_by_eight-most-requires : tie.Need-count_by_eight-most-requires
+count_by_eight-most-requires c κs = search rules
 
-unpack-by-eight-requires : tie.Need-unpack_by_eight-requires
-unpack-by-eight-requires c κs =
+unpack_by_eight-requires : tie.Need-unpack_by_eight-requires
+unpack_by_eight-requires c κs =
     let f = cut_in c.before in
     (omega arith, (c.count_by_eight-most.ensures.1, omega arith))
 
-mul-unpack-rest : tie.Need-overflow_mul-most
-mul-unpack-rest c = omega (arith, cut_in c.before.before.before.before)
+overflow_mul-most : tie.Need-overflow_mul-most
+overflow_mul-most c = omega (arith, cut_in c.before.before.before.before)
 
-add-unpack-rest : tie.Need-overflow_add-at
-add-unpack-rest c = omega (arith, cut_in c.before.before.before.before)
+overflow_add-at : tie.Need-overflow_add-at
+overflow_add-at c = omega (arith, cut_in c.before.before.before.before)
 
-sub-unpack-rest : tie.Need-overflow_sub-count
-sub-unpack-rest c = search rules
+overflow_sub-count : tie.Need-overflow_sub-count
+overflow_sub-count c = search rules
 
-mul-unpack-rest-2 : tie.Need-overflow_mul-most-2
-mul-unpack-rest-2 c = omega (arith, cut_in c.before.before.before.before.before)
+overflow_mul-most-2 : tie.Need-overflow_mul-most-2
+overflow_mul-most-2 c = omega (arith, cut_in c.before.before.before.before.before)
 
-add-unpack-rest-2 : tie.Need-overflow_add-to
-add-unpack-rest-2 c = omega (arith, cut_in c.before.before.before.before.before)
+overflow_add-to : tie.Need-overflow_add-to
+overflow_add-to c = omega (arith, cut_in c.before.before.before.before.before)
 
-unpack-rest-requires : tie.Need-unpack_rest-requires
-unpack-rest-requires c κs = omega (arith, cut_in c.before.before.before.before.before, c.unpack_by_eight.auto)
+unpack_rest-requires : tie.Need-unpack_rest-requires
+unpack_rest-requires c κs = omega (arith, cut_in c.before.before.before.before.before, c.unpack_by_eight.auto)
 
-same_length : tie.Need-shape_of-out
-same_length c = search rules
+shape_of-out : tie.Need-shape_of-out
+shape_of-out c = search rules
 
 returns : tie.Need-returns
 returns c =
@@ -71,20 +71,20 @@ returns c =
     let f = cut_in counted in
     values_run (spaced a.src.now a.at a.step a.width) (spaced a.src.now (a.at + m * a.step) a.step a.width) a.size a.out.now a.to m (a.count - m) (omega arith)
     first.unpack_by_eight.ensures rest.unpack_rest.ensures
-    (λ j l. spaced-rest a.src.now a.at a.step a.width m j)
+    (λ j l. spaced_rest a.src.now a.at a.step a.width m j)
     ∙ rw (add-sub_of_le f.0)
 
 pub unpack_spec : {M : Type 1} → statement M
 unpack_spec =
     tie.close
     (tie.spec
-    count-by-eight-requires
-    unpack-by-eight-requires
-    mul-unpack-rest
-    add-unpack-rest
-    sub-unpack-rest
-    mul-unpack-rest-2
-    add-unpack-rest-2
-    unpack-rest-requires
-    same_length
+    count_by_eight-most-requires
+    unpack_by_eight-requires
+    overflow_mul-most
+    overflow_add-at
+    overflow_sub-count
+    overflow_mul-most-2
+    overflow_add-to
+    unpack_rest-requires
+    shape_of-out
     returns)

@@ -9,17 +9,17 @@ use Rattle.subheader.specs.Subheader.{kind_entries, used_bits_entries}
 use Rattle.subheader.proofs.ImageSubheader.put_first.Statement.{statement}
 use Rattle.subheader.proofs.ImageSubheader.put_first.Tie as tie
 
-put-sides-requires : tie.Need-put_sides-requires
-put-sides-requires c κs = search rules
+put_sides-requires : tie.Need-put_sides-requires
+put_sides-requires c κs = search rules
 
-put-kind-requires : tie.Need-put_kind-requires
-put-kind-requires c κs = search rules
+put_kind-requires : tie.Need-put_kind-requires
+put_kind-requires c κs = search rules
 
-put-used-bits-requires : tie.Need-put_used_bits-requires
-put-used-bits-requires c κs = search rules
+put_used_bits-requires : tie.Need-put_used_bits-requires
+put_used_bits-requires c κs = search rules
 
-same_length : tie.Need-shape_of-part
-same_length c = search rules
+shape_of-part : tie.Need-shape_of-part
+shape_of-part c = search rules
 
 returns : tie.Need-returns
 returns c =
@@ -33,4 +33,4 @@ returns c =
 pub put_first_spec : {M : Type 1} → statement M
 put_first_spec =
     tie.close
-    (tie.spec put-sides-requires put-kind-requires put-used-bits-requires same_length returns)
+    (tie.spec put_sides-requires put_kind-requires put_used_bits-requires shape_of-part returns)

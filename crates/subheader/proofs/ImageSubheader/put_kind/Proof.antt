@@ -10,33 +10,33 @@ use Rattle.fields.specs.Fields.{put, text, PVTYPE, IREP, ICAT}
 use Rattle.subheader.proofs.ImageSubheader.put_kind.Statement.{statement}
 use Rattle.subheader.proofs.ImageSubheader.put_kind.Tie as tie
 
-to-bytes-requires : tie.Need-to_bytes-pvtype-requires
-to-bytes-requires c κs = search rules
+to_bytes-pvtype-requires : tie.Need-to_bytes-pvtype-requires
+to_bytes-pvtype-requires c κs = search rules
 
-slice-aggregate-put-text : tie.Need-slice_bounds-put_text-end
-slice-aggregate-put-text c = search rules
+slice_bounds-put_text-end : tie.Need-slice_bounds-put_text-end
+slice_bounds-put_text-end c = search rules
 
-put-text-requires : tie.Need-put_text-requires
-put-text-requires c κs = search rules
+put_text-requires : tie.Need-put_text-requires
+put_text-requires c κs = search rules
 
-slice-aggregate-put-text-2 : tie.Need-slice_bounds-put_text-end-2
-slice-aggregate-put-text-2 c = search rules
+slice_bounds-put_text-end-2 : tie.Need-slice_bounds-put_text-end-2
+slice_bounds-put_text-end-2 c = search rules
 
-put-text-requires-2 : tie.Need-put_text-requires-2
-put-text-requires-2 c κs =
+put_text-requires-2 : tie.Need-put_text-requires-2
+put_text-requires-2 c κs =
     let e : length c.args.self.irep ≡ 8 = search rules in
     omega (arith, e)
 
-slice-aggregate-put-text-3 : tie.Need-slice_bounds-put_text-end-3
-slice-aggregate-put-text-3 c = search rules
+slice_bounds-put_text-end-3 : tie.Need-slice_bounds-put_text-end-3
+slice_bounds-put_text-end-3 c = search rules
 
-put-text-requires-3 : tie.Need-put_text-requires-3
-put-text-requires-3 c κs =
+put_text-requires-3 : tie.Need-put_text-requires-3
+put_text-requires-3 c κs =
     let e : length c.args.self.icat ≡ 8 = search rules in
     omega (arith, e)
 
-same_length : tie.Need-shape_of-part
-same_length c = search rules
+shape_of-part : tie.Need-shape_of-part
+shape_of-part c = search rules
 
 returns : tie.Need-returns
 returns c =
@@ -54,12 +54,12 @@ pub put_kind_spec : {M : Type 1} → statement M
 put_kind_spec =
     tie.close
     (tie.spec
-    to-bytes-requires
-    slice-aggregate-put-text
-    put-text-requires
-    slice-aggregate-put-text-2
-    put-text-requires-2
-    slice-aggregate-put-text-3
-    put-text-requires-3
-    same_length
+    to_bytes-pvtype-requires
+    slice_bounds-put_text-end
+    put_text-requires
+    slice_bounds-put_text-end-2
+    put_text-requires-2
+    slice_bounds-put_text-end-3
+    put_text-requires-3
+    shape_of-part
     returns)

@@ -8,17 +8,17 @@ use Rattle.fields.specs.Fields.{put, text, IC}
 use Rattle.subheader.proofs.ImageSubheader.put_second.Statement.{statement}
 use Rattle.subheader.proofs.ImageSubheader.put_second.Tie as tie
 
-to-bytes-requires : tie.Need-to_bytes-ic-requires
-to-bytes-requires c κs = search rules
+to_bytes-ic-requires : tie.Need-to_bytes-ic-requires
+to_bytes-ic-requires c κs = search rules
 
-slice-aggregate-put-text : tie.Need-slice_bounds-put_text-end
-slice-aggregate-put-text c = search rules
+slice_bounds-put_text-end : tie.Need-slice_bounds-put_text-end
+slice_bounds-put_text-end c = search rules
 
-put-text-requires : tie.Need-put_text-requires
-put-text-requires c κs = search rules
+put_text-requires : tie.Need-put_text-requires
+put_text-requires c κs = search rules
 
-same_length : tie.Need-shape_of-part
-same_length c = search rules
+shape_of-part : tie.Need-shape_of-part
+shape_of-part c = search rules
 
 returns : tie.Need-returns
 returns c =
@@ -29,4 +29,4 @@ returns c =
 pub put_second_spec : {M : Type 1} → statement M
 put_second_spec =
     tie.close
-    (tie.spec to-bytes-requires slice-aggregate-put-text put-text-requires same_length returns)
+    (tie.spec to_bytes-ic-requires slice_bounds-put_text-end put_text-requires shape_of-part returns)

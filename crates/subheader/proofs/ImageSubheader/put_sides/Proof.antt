@@ -8,14 +8,14 @@ use Rattle.fields.specs.Fields.{put, number, NCOLS}
 use Rattle.subheader.proofs.ImageSubheader.put_sides.Statement.{statement}
 use Rattle.subheader.proofs.ImageSubheader.put_sides.Tie as tie
 
-put-number-requires : tie.Need-put_number-requires
-put-number-requires c κs = search rules
+put_number-requires : tie.Need-put_number-requires
+put_number-requires c κs = search rules
 
-put-number-requires-2 : tie.Need-put_number-requires-2
-put-number-requires-2 c κs = search rules
+put_number-requires-2 : tie.Need-put_number-requires-2
+put_number-requires-2 c κs = search rules
 
-same_length : tie.Need-shape_of-part
-same_length c = search rules
+shape_of-part : tie.Need-shape_of-part
+shape_of-part c = search rules
 
 returns : tie.Need-returns
 returns c =
@@ -24,4 +24,4 @@ returns c =
     ncols.put_number-2.ensures ∙ ap (λ (d : List ℕ). put d (number NCOLS s.grid.ncols)) ncols.put_number.ensures
 
 pub put_sides_spec : {M : Type 1} → statement M
-put_sides_spec = tie.close (tie.spec put-number-requires put-number-requires-2 same_length returns)
+put_sides_spec = tie.close (tie.spec put_number-requires put_number-requires-2 shape_of-part returns)

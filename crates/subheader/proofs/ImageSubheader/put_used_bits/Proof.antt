@@ -8,20 +8,20 @@ use Rattle.fields.specs.Fields.{put, text, PJUST}
 use Rattle.subheader.proofs.ImageSubheader.put_used_bits.Statement.{statement}
 use Rattle.subheader.proofs.ImageSubheader.put_used_bits.Tie as tie
 
-to-bytes-requires : tie.Need-to_bytes-pjust-requires
-to-bytes-requires c κs = search rules
+to_bytes-pjust-requires : tie.Need-to_bytes-pjust-requires
+to_bytes-pjust-requires c κs = search rules
 
-put-number-requires : tie.Need-put_number-requires
-put-number-requires c κs = search rules
+put_number-requires : tie.Need-put_number-requires
+put_number-requires c κs = search rules
 
-slice-aggregate-put-text : tie.Need-slice_bounds-put_text-end
-slice-aggregate-put-text c = search rules
+slice_bounds-put_text-end : tie.Need-slice_bounds-put_text-end
+slice_bounds-put_text-end c = search rules
 
-put-text-requires : tie.Need-put_text-requires
-put-text-requires c κs = search rules
+put_text-requires : tie.Need-put_text-requires
+put_text-requires c κs = search rules
 
-same_length : tie.Need-shape_of-part
-same_length c = search rules
+shape_of-part : tie.Need-shape_of-part
+shape_of-part c = search rules
 
 returns : tie.Need-returns
 returns c =
@@ -32,9 +32,9 @@ pub put_used_bits_spec : {M : Type 1} → statement M
 put_used_bits_spec =
     tie.close
     (tie.spec
-    to-bytes-requires
-    put-number-requires
-    slice-aggregate-put-text
-    put-text-requires
-    same_length
+    to_bytes-pjust-requires
+    put_number-requires
+    slice_bounds-put_text-end
+    put_text-requires
+    shape_of-part
     returns)

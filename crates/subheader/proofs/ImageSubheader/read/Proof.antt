@@ -35,46 +35,46 @@ number_is c =
     c.check-number.ensures ∙ ap (λ (s : ImageSubheader). grid_number s.grid) c.fields_in-subheader.ensures
     ∙ sym (ask-yes 23 _ (parts second.before.before) ∙ ask-yes 24 _ (named second))
 
-are-parts-requires : tie.Need-are_parts-requires
-are-parts-requires c κs = search rules
+are_parts-requires : tie.Need-are_parts-requires
+are_parts-requires c κs = search rules
 
 refused-requires : tie.Need-refused-requires
 refused-requires c κs = search rules
 
-returns : tie.Need-returns-then-not-are_parts
+returns-then-not-are_parts : tie.Need-returns-then-not-are_parts
 unfolding read_subheader read_number
-returns c =
+returns-then-not-are_parts c =
     let n = ask-no 23 _ (no c.are_parts.ensures c.if-not-are_parts.true) in
     c.refused.ensures ∙ refused-by _ _ (sym n) (λ z. absurd (omega arith))
 
-are-named-requires : tie.Need-are_named-requires
-are-named-requires c κs = fit _ _ _ (parts c)
+are_named-requires : tie.Need-are_named-requires
+are_named-requires c κs = fit _ _ _ (parts c)
 
-refused-requires-2 : tie.Need-refused-requires-then-not-are_named
-refused-requires-2 c κs = search rules
+refused-requires-then-not-are_named : tie.Need-refused-requires-then-not-are_named
+refused-requires-then-not-are_named c κs = search rules
 
-returns-2 : tie.Need-returns-then-not-are_named
+returns-then-not-are_named : tie.Need-returns-then-not-are_named
 unfolding read_subheader read_number
-returns-2 c =
+returns-then-not-are_named c =
     let n = ask-yes 23 _ (parts c.before.before.before) ∙ ask-no 24 _ (no c.are_named.ensures c.if-not-are_named.true) in
     c.refused-then-not-are_named.ensures ∙ refused-by _ _ (sym n) (λ z. absurd (omega arith))
 
-fields-in-requires : tie.Need-fields_in-subheader-requires
-fields-in-requires c κs = parts c.before.before
+fields_in-subheader-requires : tie.Need-fields_in-subheader-requires
+fields_in-subheader-requires c κs = parts c.before.before
 
-check-requires : tie.Need-check-number-requires
-check-requires c κs = search rules
+check-number-requires : tie.Need-check-number-requires
+check-number-requires c κs = search rules
 
-refused-requires-3 : tie.Need-refused-requires-then-number-ne0
-refused-requires-3 c κs = search rules
+refused-requires-then-number-ne0 : tie.Need-refused-requires-then-number-ne0
+refused-requires-then-number-ne0 c κs = search rules
 
-returns-3 : tie.Need-returns-then-number-ne0
+returns-then-number-ne0 : tie.Need-returns-then-number-ne0
 unfolding read_subheader
-returns-3 c = c.refused-then-number-ne0.ensures ∙ refused-by _ _ (number_is c.before.before) c.if-number-ne0.true
+returns-then-number-ne0 c = c.refused-then-number-ne0.ensures ∙ refused-by _ _ (number_is c.before.before) c.if-number-ne0.true
 
-returns-4 : tie.Need-returns
+returns : tie.Need-returns
 unfolding read_subheader
-returns-4 c =
+returns c =
     ap (read_as 0) c.fields_in-subheader.ensures
     ∙ sym (outcome-yes _ _ (sym (number_is c.before) ∙ c.if-number-ne0.false))
 
@@ -82,14 +82,14 @@ pub read_spec : {M : Type 1} → statement M
 read_spec =
     tie.close
     (tie.spec
-    are-parts-requires
+    are_parts-requires
     refused-requires
-    returns
-    are-named-requires
-    refused-requires-2
-    returns-2
-    fields-in-requires
-    check-requires
-    refused-requires-3
-    returns-3
-    returns-4)
+    returns-then-not-are_parts
+    are_named-requires
+    refused-requires-then-not-are_named
+    returns-then-not-are_named
+    fields_in-subheader-requires
+    check-number-requires
+    refused-requires-then-number-ne0
+    returns-then-number-ne0
+    returns)

@@ -16,34 +16,34 @@ accepted : (c : tie.Else-number-ne0)
     write_number a.self (length a.first.now) (length a.second.now) (length a.third.now) ≡ 0
 accepted c = sym c.write_number-number.ensures ∙ c.if-number-ne0.false
 
-write-number-requires : tie.Need-write_number-number-requires
-write-number-requires c κs = search rules
+write_number-number-requires : tie.Need-write_number-number-requires
+write_number-number-requires c κs = search rules
 
-returns : tie.Need-returns-then-number-ne0
+returns-then-number-ne0 : tie.Need-returns-then-number-ne0
 unfolding write_subheader
-returns c = refused-by _ _ c.write_number-number.ensures c.if-number-ne0.true
+returns-then-number-ne0 c = refused-by _ _ c.write_number-number.ensures c.if-number-ne0.true
 
-put-first-requires : tie.Need-put_first-requires
-put-first-requires c κs = omega (arith, (held _ _ _ _ (accepted c.before)).first)
+put_first-requires : tie.Need-put_first-requires
+put_first-requires c κs = omega (arith, (held _ _ _ _ (accepted c.before)).first)
 
-put-second-requires : tie.Need-put_second-requires
-put-second-requires c κs = omega (arith, (held _ _ _ _ (accepted c.before.before.before.before.before)).second)
+put_second-requires : tie.Need-put_second-requires
+put_second-requires c κs = omega (arith, (held _ _ _ _ (accepted c.before.before.before.before.before)).second)
 
-put-third-requires : tie.Need-put_third-requires
-put-third-requires c κs = omega (arith, (held _ _ _ _ (accepted c.before.before.before.before.before.before.before.before.before)).third)
+put_third-requires : tie.Need-put_third-requires
+put_third-requires c κs = omega (arith, (held _ _ _ _ (accepted c.before.before.before.before.before.before.before.before.before)).third)
 
-same_length : tie.Need-shape_of-first
-same_length c = search rules
+shape_of-first : tie.Need-shape_of-first
+shape_of-first c = search rules
 
-same-length-2 : tie.Need-shape_of-second
-same-length-2 c = search rules
+shape_of-second : tie.Need-shape_of-second
+shape_of-second c = search rules
 
-same-length-3 : tie.Need-shape_of-third
-same-length-3 c = search rules
+shape_of-third : tie.Need-shape_of-third
+shape_of-third c = search rules
 
-returns-2 : tie.Need-returns
+returns : tie.Need-returns
 unfolding write_subheader
-returns-2 c =
+returns c =
     let third = c.before.before in
     let second = third.before.before.before.before in
     let first = second.before.before.before.before in
@@ -54,12 +54,12 @@ pub write_spec : {M : Type 1} → statement M
 write_spec =
     tie.close
     (tie.spec
-    write-number-requires
-    returns
-    put-first-requires
-    put-second-requires
-    put-third-requires
-    same_length
-    same-length-2
-    same-length-3
-    returns-2)
+    write_number-number-requires
+    returns-then-number-ne0
+    put_first-requires
+    put_second-requires
+    put_third-requires
+    shape_of-first
+    shape_of-second
+    shape_of-third
+    returns)

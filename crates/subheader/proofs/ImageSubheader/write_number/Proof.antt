@@ -11,32 +11,32 @@ use Rattle.subheader.specs.Subheader.{q24_write, write_number}
 use Rattle.subheader.proofs.ImageSubheader.write_number.Statement.{statement}
 use Rattle.subheader.proofs.ImageSubheader.write_number.Tie as tie
 
-returns : tie.Need-returns-then-self-gt-MAX_ABPP
+returns-then-self-gt-MAX_ABPP : tie.Need-returns-then-self-gt-MAX_ABPP
 unfolding write_number q24_write
-returns c = simp (lt-leb _ _ c.if-self-gt-MAX_ABPP.true)
+returns-then-self-gt-MAX_ABPP c = simp (lt-leb _ _ c.if-self-gt-MAX_ABPP.true)
 
-check-requires : tie.Need-check-number-requires
-check-requires c κs = search rules
+check-number-requires : tie.Need-check-number-requires
+check-number-requires c κs = search rules
 
-returns-2 : tie.Need-returns-then-number-ne0
+returns-then-number-ne0 : tie.Need-returns-then-number-ne0
 unfolding write_number q24_write grid_number
-returns-2 c = simp (le-leb _ _ c.if-self-gt-MAX_ABPP.false) ((grid-before _).refuses c.check-number.ensures c.if-number-ne0.true _)
+returns-then-number-ne0 c = simp (le-leb _ _ c.if-self-gt-MAX_ABPP.false) ((grid-before _).refuses c.check-number.ensures c.if-number-ne0.true _)
 
-parts-hold-requires : tie.Need-parts_hold-requires
-parts-hold-requires c κs = search rules
+parts_hold-requires : tie.Need-parts_hold-requires
+parts_hold-requires c κs = search rules
 
-returns-3 : tie.Need-returns-then-not-parts_hold
+returns-then-not-parts_hold : tie.Need-returns-then-not-parts_hold
 unfolding write_number q24_write grid_number
-returns-3 c =
+returns-then-not-parts_hold c =
     simp (le-leb _ _ c.if-self-gt-MAX_ABPP.false)
     (sym ((grid-before _).accepts c.check-number.ensures c.if-number-ne0.false _ ∙ ask-no 9 _ (no c.parts_hold.ensures c.if-not-parts_hold.true)))
 
-returns-4 : tie.Need-returns
+returns : tie.Need-returns
 unfolding write_number q24_write grid_number
-returns-4 c =
+returns c =
     simp (le-leb _ _ c.if-self-gt-MAX_ABPP.false)
     (sym ((grid-before _).accepts c.check-number.ensures c.if-number-ne0.false _ ∙ ask-yes 9 _ (yes c.parts_hold.ensures c.if-not-parts_hold.false)))
 
 pub write_number_spec : {M : Type 1} → statement M
 write_number_spec =
-    tie.close (tie.spec returns check-requires returns-2 parts-hold-requires returns-3 returns-4)
+    tie.close (tie.spec returns-then-self-gt-MAX_ABPP check-number-requires returns-then-number-ne0 parts_hold-requires returns-then-not-parts_hold returns)

@@ -39,54 +39,54 @@ imode c = c.mode_is_named.ensures ∙ ap (is_named imode_text imodes) c.bytes_in
 fits : (s : tie.Start) → Lengths (length s.args.first.now) (length s.args.second.now) (length s.args.third.now)
 fits s = lengths _ _ _ s.requires
 
-bytes-in-requires : tie.Need-bytes_in-requires
-bytes-in-requires c κs = omega (arith, (fits c.before.before.before).first)
+bytes_in-requires : tie.Need-bytes_in-requires
+bytes_in-requires c κs = omega (arith, (fits c.before.before.before).first)
 
-is-named-requires : tie.Need-is_named-requires
-is-named-requires c κs = search rules
+is_named-requires : tie.Need-is_named-requires
+is_named-requires c κs = search rules
 
-returns : tie.Need-returns-then-not-is_named
+returns-then-not-is_named : tie.Need-returns-then-not-is_named
 unfolding q24 every
-returns c = simp (no (pvtype c.before) c.if-not-is_named.true)
+returns-then-not-is_named c = simp (no (pvtype c.before) c.if-not-is_named.true)
 
-bytes-in-requires-2 : tie.Need-bytes_in-requires-2
-bytes-in-requires-2 c κs = omega (arith, (fits c.before.before.before.before.before.before).first)
+bytes_in-requires-2 : tie.Need-bytes_in-requires-2
+bytes_in-requires-2 c κs = omega (arith, (fits c.before.before.before.before.before.before).first)
 
-is-named-requires-2 : tie.Need-is_named-requires-2
-is-named-requires-2 c κs = search rules
+is_named-requires-2 : tie.Need-is_named-requires-2
+is_named-requires-2 c κs = search rules
 
-returns-2 : tie.Need-returns-then-not-is_named-2
+returns-then-not-is_named-2 : tie.Need-returns-then-not-is_named-2
 unfolding q24 every
-returns-2 c =
+returns-then-not-is_named-2 c =
     simp (
       yes (pvtype c.before.before.before.before) c.if-not-is_named.false,
       no (pjust c.before) c.if-not-is_named-2.true,
     )
 
-bytes-in-requires-3 : tie.Need-bytes_in-requires-3
-bytes-in-requires-3 c κs = omega (arith, (fits c.before.before.before.before.before.before.before.before.before).second)
+bytes_in-requires-3 : tie.Need-bytes_in-requires-3
+bytes_in-requires-3 c κs = omega (arith, (fits c.before.before.before.before.before.before.before.before.before).second)
 
-is-named-requires-3 : tie.Need-is_named-requires-3
-is-named-requires-3 c κs = search rules
+is_named-requires-3 : tie.Need-is_named-requires-3
+is_named-requires-3 c κs = search rules
 
-returns-3 : tie.Need-returns-then-not-is_named-3
+returns-then-not-is_named-3 : tie.Need-returns-then-not-is_named-3
 unfolding q24 every
-returns-3 c =
+returns-then-not-is_named-3 c =
     simp (
       yes (pvtype c.before.before.before.before.before.before.before) c.if-not-is_named.false,
       yes (pjust c.before.before.before.before) c.if-not-is_named-2.false,
       no (ic c.before) c.if-not-is_named-3.true,
     )
 
-bytes-in-requires-4 : tie.Need-bytes_in-requires-4
-bytes-in-requires-4 c κs = omega (arith, (fits c.before.before.before.before.before.before.before.before.before.before.before.before).third)
+bytes_in-requires-4 : tie.Need-bytes_in-requires-4
+bytes_in-requires-4 c κs = omega (arith, (fits c.before.before.before.before.before.before.before.before.before.before.before.before).third)
 
-mode-is-named-requires : tie.Need-mode_is_named-requires
-mode-is-named-requires c κs = search rules
+mode_is_named-requires : tie.Need-mode_is_named-requires
+mode_is_named-requires c κs = search rules
 
-returns-4 : tie.Need-returns
+returns : tie.Need-returns
 unfolding q24 every
-returns-4 c =
+returns c =
     simp (
       yes (pvtype c.before.before.before.before.before.before.before.before.before) c.if-not-is_named.false,
       yes (pjust c.before.before.before.before.before.before) c.if-not-is_named-2.false,
@@ -98,15 +98,15 @@ pub are_named_spec : {M : Type 1} → statement M
 are_named_spec =
     tie.close
     (tie.spec
-    bytes-in-requires
-    is-named-requires
-    returns
-    bytes-in-requires-2
-    is-named-requires-2
-    returns-2
-    bytes-in-requires-3
-    is-named-requires-3
-    returns-3
-    bytes-in-requires-4
-    mode-is-named-requires
-    returns-4)
+    bytes_in-requires
+    is_named-requires
+    returns-then-not-is_named
+    bytes_in-requires-2
+    is_named-requires-2
+    returns-then-not-is_named-2
+    bytes_in-requires-3
+    is_named-requires-3
+    returns-then-not-is_named-3
+    bytes_in-requires-4
+    mode_is_named-requires
+    returns)

@@ -17,26 +17,26 @@ fits : (c : tie.Else-not-parts_fit)
     Lengths (length a.first.now) (length a.second.now) (length a.third.now)
 fits c = lengths _ _ _ (yes c.parts_fit.ensures c.if-not-parts_fit.false)
 
-parts-fit-requires : tie.Need-parts_fit-requires
-parts-fit-requires c κs = search rules
+parts_fit-requires : tie.Need-parts_fit-requires
+parts_fit-requires c κs = search rules
 
-returns : tie.Need-returns-then-not-parts_fit
+returns-then-not-parts_fit : tie.Need-returns-then-not-parts_fit
 unfolding q23 every
-returns c = simp (no c.parts_fit.ensures c.if-not-parts_fit.true)
+returns-then-not-parts_fit c = simp (no c.parts_fit.ensures c.if-not-parts_fit.true)
 
-first-numbers-requires : tie.Need-first_numbers-requires
-first-numbers-requires c κs = (fits c).first
+first_numbers-requires : tie.Need-first_numbers-requires
+first_numbers-requires c κs = (fits c).first
 
-returns-2 : tie.Need-returns-then-not-first_numbers
+returns-then-not-first_numbers : tie.Need-returns-then-not-first_numbers
 unfolding q23 every
-returns-2 c = simp (yes c.parts_fit.ensures c.if-not-parts_fit.false, no c.first_numbers.ensures c.if-not-first_numbers.true)
+returns-then-not-first_numbers c = simp (yes c.parts_fit.ensures c.if-not-parts_fit.false, no c.first_numbers.ensures c.if-not-first_numbers.true)
 
-third-numbers-requires : tie.Need-third_numbers-requires
-third-numbers-requires c κs = (fits c.before.before).third
+third_numbers-requires : tie.Need-third_numbers-requires
+third_numbers-requires c κs = (fits c.before.before).third
 
-returns-3 : tie.Need-returns
+returns : tie.Need-returns
 unfolding q23 every
-returns-3 c =
+returns c =
     simp (
       yes c.parts_fit.ensures c.if-not-parts_fit.false,
       yes c.first_numbers.ensures c.if-not-first_numbers.false,
@@ -47,9 +47,9 @@ pub are_parts_spec : {M : Type 1} → statement M
 are_parts_spec =
     tie.close
     (tie.spec
-    parts-fit-requires
-    returns
-    first-numbers-requires
-    returns-2
-    third-numbers-requires
-    returns-3)
+    parts_fit-requires
+    returns-then-not-parts_fit
+    first_numbers-requires
+    returns-then-not-first_numbers
+    third_numbers-requires
+    returns)

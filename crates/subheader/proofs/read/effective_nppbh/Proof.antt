@@ -5,17 +5,17 @@ use Rattle.subheader.proofs.Parts.{ready}
 use Rattle.subheader.proofs.read.effective_nppbh.Statement.{statement}
 use Rattle.subheader.proofs.read.effective_nppbh.Tie as tie
 
-number-in-requires : tie.Need-number_in-nppbh-requires
-number-in-requires c κs = (ready c.requires).nppbh
+number_in-nppbh-requires : tie.Need-number_in-nppbh-requires
+number_in-nppbh-requires c κs = (ready c.requires).nppbh
 
-number-in-requires-2 : tie.Need-number_in-nbpr-requires
-number-in-requires-2 c κs = (ready c.requires).nbpr
+number_in-nbpr-requires : tie.Need-number_in-nbpr-requires
+number_in-nbpr-requires c κs = (ready c.requires).nbpr
 
-number-in-requires-3 : tie.Need-number_in-requires
-number-in-requires-3 c κs = (ready c.requires).ncols
+number_in-requires : tie.Need-number_in-requires
+number_in-requires c κs = (ready c.requires).ncols
 
-effective-side-requires : tie.Need-effective_side-requires
-effective-side-requires c κs = search rules
+effective_side-requires : tie.Need-effective_side-requires
+effective_side-requires c κs = search rules
 
 returns : tie.Need-returns
 returns c =
@@ -25,8 +25,8 @@ pub effective_nppbh_spec : {M : Type 1} → statement M
 effective_nppbh_spec =
     tie.close
     (tie.spec
-    number-in-requires
-    number-in-requires-2
-    number-in-requires-3
-    effective-side-requires
+    number_in-nppbh-requires
+    number_in-nbpr-requires
+    number_in-requires
+    effective_side-requires
     returns)

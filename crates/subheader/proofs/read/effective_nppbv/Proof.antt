@@ -5,17 +5,17 @@ use Rattle.subheader.proofs.Parts.{ready}
 use Rattle.subheader.proofs.read.effective_nppbv.Statement.{statement}
 use Rattle.subheader.proofs.read.effective_nppbv.Tie as tie
 
-number-in-requires : tie.Need-number_in-nppbv-requires
-number-in-requires c κs = (ready c.requires).nppbv
+number_in-nppbv-requires : tie.Need-number_in-nppbv-requires
+number_in-nppbv-requires c κs = (ready c.requires).nppbv
 
-number-in-requires-2 : tie.Need-number_in-nbpc-requires
-number-in-requires-2 c κs = (ready c.requires).nbpc
+number_in-nbpc-requires : tie.Need-number_in-nbpc-requires
+number_in-nbpc-requires c κs = (ready c.requires).nbpc
 
-number-in-requires-3 : tie.Need-number_in-requires
-number-in-requires-3 c κs = (ready c.requires).nrows
+number_in-requires : tie.Need-number_in-requires
+number_in-requires c κs = (ready c.requires).nrows
 
-effective-side-requires : tie.Need-effective_side-requires
-effective-side-requires c κs = search rules
+effective_side-requires : tie.Need-effective_side-requires
+effective_side-requires c κs = search rules
 
 returns : tie.Need-returns
 returns c =
@@ -25,8 +25,8 @@ pub effective_nppbv_spec : {M : Type 1} → statement M
 effective_nppbv_spec =
     tie.close
     (tie.spec
-    number-in-requires
-    number-in-requires-2
-    number-in-requires-3
-    effective-side-requires
+    number_in-nppbv-requires
+    number_in-nbpc-requires
+    number_in-requires
+    effective_side-requires
     returns)

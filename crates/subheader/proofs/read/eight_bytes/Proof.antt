@@ -10,11 +10,11 @@ use lib.Seq.{take_all, take-suc, take-suc-set}
 use Rattle.subheader.proofs.read.eight_bytes.Statement.{statement}
 use Rattle.subheader.proofs.read.eight_bytes.Tie as tie
 
-abbrev invariant-loop : tie.invariant-loop-j
-invariant-loop bytes out₀ j₀ out j = (j ≤ 8) × (length out ≡ 8) × (take j out ≡ take j bytes)
+abbrev invariant-loop-j : tie.invariant-loop-j
+invariant-loop-j bytes out₀ j₀ out j = (j ≤ 8) × (length out ≡ 8) × (take j out ≡ take j bytes)
 
-abbrev decreases-loop : tie.decreases-loop-j
-decreases-loop bytes out₀ j₀ out j = 8 - j
+abbrev decreases-loop-j : tie.decreases-loop-j
+decreases-loop-j bytes out₀ j₀ out j = 8 - j
 
 -- a turn: one more byte
 turn : (xs out : List ℕ) (j : ℕ) → j < length xs → j < length out → take j out ≡ take j xs
@@ -23,26 +23,26 @@ turn xs out j h l e =
     rw add-one
     (take-suc-set out j (get_or xs j 0) l ∙ ap (λ (a : List ℕ). a ++ (get_or xs j 0 ∷ [])) e ∙ sym (take-suc xs j 0 h))
 
-loop-holds : tie.Need-loop-j-init invariant-loop decreases-loop
-loop-holds c = (omega arith, refl, refl)
+loop-j-init : tie.Need-loop-j-init invariant-loop-j decreases-loop-j
+loop-j-init c = (omega arith, refl, refl)
 
-shared-slice-read-out : tie.Need-bounds-bytes-j invariant-loop decreases-loop
-shared-slice-read-out c = omega arith
+bounds-bytes-j : tie.Need-bounds-bytes-j invariant-loop-j decreases-loop-j
+bounds-bytes-j c = omega arith
 
-array-write-out : tie.Need-bounds-out-j invariant-loop decreases-loop
-array-write-out c = omega arith
+bounds-out-j : tie.Need-bounds-out-j invariant-loop-j decreases-loop-j
+bounds-out-j c = omega arith
 
-add-j : tie.Need-overflow_step-j invariant-loop decreases-loop
-add-j c = omega arith
+overflow_step-j : tie.Need-overflow_step-j invariant-loop-j decreases-loop-j
+overflow_step-j c = omega arith
 
-loop-less : tie.Need-loop-j-smaller invariant-loop decreases-loop
-loop-less c = omega arith
+loop-j-smaller : tie.Need-loop-j-smaller invariant-loop-j decreases-loop-j
+loop-j-smaller c = omega arith
 
-loop-again : tie.Need-loop-j-preserved invariant-loop decreases-loop
-loop-again c =
+loop-j-preserved : tie.Need-loop-j-preserved invariant-loop-j decreases-loop-j
+loop-j-preserved c =
     (omega arith, rw length-set c.loop-j.invariant.1, turn c.args.bytes.now c.loop-j.out c.loop-j.j (omega (arith, c.requires)) (omega (arith, c.loop-j.invariant.1)) c.loop-j.invariant.2)
 
-returns : tie.Need-returns invariant-loop decreases-loop
+returns : tie.Need-returns invariant-loop-j decreases-loop-j
 returns c =
     let xs : List ℕ = c.args.bytes.now in
     let out : List ℕ = c.loop-j.out in
@@ -53,12 +53,12 @@ pub eight_bytes_spec : {M : Type 1} → statement M
 eight_bytes_spec =
     tie.close
     (tie.spec
-    invariant-loop
-    decreases-loop
-    loop-holds
-    shared-slice-read-out
-    array-write-out
-    add-j
-    loop-less
-    loop-again
+    invariant-loop-j
+    decreases-loop-j
+    loop-j-init
+    bounds-bytes-j
+    bounds-out-j
+    overflow_step-j
+    loop-j-smaller
+    loop-j-preserved
     returns)

@@ -22,41 +22,41 @@ fits s = lengths _ _ _ (fit _ _ _ s.requires)
 digits : (s : tie.Start) → Numbered s.args.first.now s.args.third.now
 digits s = numbered _ s.args.second.now _ s.requires
 
-bytes-in-requires : tie.Need-bytes_in-requires
-bytes-in-requires c κs = omega (arith, (fits c.before.before.before).first)
+bytes_in-requires : tie.Need-bytes_in-requires
+bytes_in-requires c κs = omega (arith, (fits c.before.before.before).first)
 
-from-bytes-requires : tie.Need-from_bytes-requires
-from-bytes-requires c κs = search rules
+from_bytes-requires : tie.Need-from_bytes-requires
+from_bytes-requires c κs = search rules
 
-bytes-in-requires-2 : tie.Need-bytes_in-requires-2
-bytes-in-requires-2 c κs = omega (arith, (fits c.before.before.before.before.before).first)
+bytes_in-requires-2 : tie.Need-bytes_in-requires-2
+bytes_in-requires-2 c κs = omega (arith, (fits c.before.before.before.before.before).first)
 
-eight-bytes-requires : tie.Need-eight_bytes-requires
-eight-bytes-requires c κs = ap length c.bytes_in-2.ensures ∙ length-bytes_in c.args.first.now IREP (omega (arith, (fits c.before.before.before.before.before.before).first))
+eight_bytes-requires : tie.Need-eight_bytes-requires
+eight_bytes-requires c κs = ap length c.bytes_in-2.ensures ∙ length-bytes_in c.args.first.now IREP (omega (arith, (fits c.before.before.before.before.before.before).first))
 
-bytes-in-requires-3 : tie.Need-bytes_in-requires-3
-bytes-in-requires-3 c κs = omega (arith, (fits c.before.before.before.before.before.before.before).first)
+bytes_in-requires-3 : tie.Need-bytes_in-requires-3
+bytes_in-requires-3 c κs = omega (arith, (fits c.before.before.before.before.before.before.before).first)
 
-eight-bytes-requires-2 : tie.Need-eight_bytes-requires-2
-eight-bytes-requires-2 c κs = ap length c.bytes_in-3.ensures ∙ length-bytes_in c.args.first.now ICAT (omega (arith, (fits c.before.before.before.before.before.before.before.before).first))
+eight_bytes-requires-2 : tie.Need-eight_bytes-requires-2
+eight_bytes-requires-2 c κs = ap length c.bytes_in-3.ensures ∙ length-bytes_in c.args.first.now ICAT (omega (arith, (fits c.before.before.before.before.before.before.before.before).first))
 
-number-in-requires : tie.Need-number_in-requires
-number-in-requires c κs = (ready (digits c.before.before.before.before.before.before.before.before.before)).abpp
+number_in-requires : tie.Need-number_in-requires
+number_in-requires c κs = (ready (digits c.before.before.before.before.before.before.before.before.before)).abpp
 
-bytes-in-requires-4 : tie.Need-bytes_in-requires-4
-bytes-in-requires-4 c κs = omega (arith, (fits c.before.before.before.before.before.before.before.before.before.before).first)
+bytes_in-requires-4 : tie.Need-bytes_in-requires-4
+bytes_in-requires-4 c κs = omega (arith, (fits c.before.before.before.before.before.before.before.before.before.before).first)
 
-from-bytes-requires-2 : tie.Need-from_bytes-requires-2
-from-bytes-requires-2 c κs = search rules
+from_bytes-requires-2 : tie.Need-from_bytes-requires-2
+from_bytes-requires-2 c κs = search rules
 
-bytes-in-requires-5 : tie.Need-bytes_in-requires-5
-bytes-in-requires-5 c κs = omega (arith, (fits c.before.before.before.before.before.before.before.before.before.before.before.before).second)
+bytes_in-requires-5 : tie.Need-bytes_in-requires-5
+bytes_in-requires-5 c κs = omega (arith, (fits c.before.before.before.before.before.before.before.before.before.before.before.before).second)
 
-from-bytes-requires-3 : tie.Need-from_bytes-requires-3
-from-bytes-requires-3 c κs = search rules
+from_bytes-requires-3 : tie.Need-from_bytes-requires-3
+from_bytes-requires-3 c κs = search rules
 
-grid-of-parts-requires : tie.Need-grid_of_parts-requires
-grid-of-parts-requires c κs = digits c.before.before.before.before.before.before.before.before.before.before.before.before.before.before
+grid_of_parts-requires : tie.Need-grid_of_parts-requires
+grid_of_parts-requires c κs = digits c.before.before.before.before.before.before.before.before.before.before.before.before.before.before
 
 returns : tie.Need-returns
 returns c =
@@ -79,16 +79,16 @@ pub fields_in_spec : {M : Type 1} → statement M
 fields_in_spec =
     tie.close
     (tie.spec
-    bytes-in-requires
-    from-bytes-requires
-    bytes-in-requires-2
-    eight-bytes-requires
-    bytes-in-requires-3
-    eight-bytes-requires-2
-    number-in-requires
-    bytes-in-requires-4
-    from-bytes-requires-2
-    bytes-in-requires-5
-    from-bytes-requires-3
-    grid-of-parts-requires
+    bytes_in-requires
+    from_bytes-requires
+    bytes_in-requires-2
+    eight_bytes-requires
+    bytes_in-requires-3
+    eight_bytes-requires-2
+    number_in-requires
+    bytes_in-requires-4
+    from_bytes-requires-2
+    bytes_in-requires-5
+    from_bytes-requires-3
+    grid_of_parts-requires
     returns)

@@ -9,26 +9,26 @@ use Rattle.subheader.specs.Subheader.{first_numbers}
 use Rattle.subheader.proofs.read.first_numbers.Statement.{statement}
 use Rattle.subheader.proofs.read.first_numbers.Tie as tie
 
-is-number-requires : tie.Need-is_number-requires
-is-number-requires c κs = search rules
+is_number-requires : tie.Need-is_number-requires
+is_number-requires c κs = search rules
 
-returns : tie.Need-returns-then-not-is_number
+returns-then-not-is_number : tie.Need-returns-then-not-is_number
 unfolding first_numbers every
-returns c = simp (no c.is_number.ensures c.if-not-is_number.true)
+returns-then-not-is_number c = simp (no c.is_number.ensures c.if-not-is_number.true)
 
-is-number-requires-2 : tie.Need-is_number-requires-2
-is-number-requires-2 c κs = search rules
+is_number-requires-2 : tie.Need-is_number-requires-2
+is_number-requires-2 c κs = search rules
 
-returns-2 : tie.Need-returns-then-not-is_number-2
+returns-then-not-is_number-2 : tie.Need-returns-then-not-is_number-2
 unfolding first_numbers every
-returns-2 c = simp (yes c.is_number.ensures c.if-not-is_number.false, no c.is_number-2.ensures c.if-not-is_number-2.true)
+returns-then-not-is_number-2 c = simp (yes c.is_number.ensures c.if-not-is_number.false, no c.is_number-2.ensures c.if-not-is_number-2.true)
 
-is-number-requires-3 : tie.Need-is_number-requires-3
-is-number-requires-3 c κs = search rules
+is_number-requires-3 : tie.Need-is_number-requires-3
+is_number-requires-3 c κs = search rules
 
-returns-3 : tie.Need-returns
+returns : tie.Need-returns
 unfolding first_numbers every
-returns-3 c =
+returns c =
     simp (
       yes c.is_number.ensures c.if-not-is_number.false,
       yes c.is_number-2.ensures c.if-not-is_number-2.false,
@@ -39,9 +39,9 @@ pub first_numbers_spec : {M : Type 1} → statement M
 first_numbers_spec =
     tie.close
     (tie.spec
-    is-number-requires
-    returns
-    is-number-requires-2
-    returns-2
-    is-number-requires-3
-    returns-3)
+    is_number-requires
+    returns-then-not-is_number
+    is_number-requires-2
+    returns-then-not-is_number-2
+    is_number-requires-3
+    returns)

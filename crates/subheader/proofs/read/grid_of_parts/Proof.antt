@@ -8,32 +8,32 @@ use Rattle.subheader.proofs.Parts.{ready}
 use Rattle.subheader.proofs.read.grid_of_parts.Statement.{statement}
 use Rattle.subheader.proofs.read.grid_of_parts.Tie as tie
 
-number-in-requires : tie.Need-number_in-requires
-number-in-requires c κs = (ready c.requires).nrows
+number_in-requires : tie.Need-number_in-requires
+number_in-requires c κs = (ready c.requires).nrows
 
-number-in-requires-2 : tie.Need-number_in-requires-2
-number-in-requires-2 c κs = (ready c.requires).ncols
+number_in-requires-2 : tie.Need-number_in-requires-2
+number_in-requires-2 c κs = (ready c.requires).ncols
 
-number-in-requires-3 : tie.Need-number_in-requires-3
-number-in-requires-3 c κs = (ready c.requires).nbpp
+number_in-requires-3 : tie.Need-number_in-requires-3
+number_in-requires-3 c κs = (ready c.requires).nbpp
 
-bytes-in-requires : tie.Need-bytes_in-requires
-bytes-in-requires c κs = search rules
+bytes_in-requires : tie.Need-bytes_in-requires
+bytes_in-requires c κs = search rules
 
-mode-from-bytes-requires : tie.Need-mode_from_bytes-requires
-mode-from-bytes-requires c κs = search rules
+mode_from_bytes-requires : tie.Need-mode_from_bytes-requires
+mode_from_bytes-requires c κs = search rules
 
-effective-nppbh-requires : tie.Need-effective_nppbh-requires
-effective-nppbh-requires c κs = search rules
+effective_nppbh-requires : tie.Need-effective_nppbh-requires
+effective_nppbh-requires c κs = search rules
 
-effective-nppbv-requires : tie.Need-effective_nppbv-requires
-effective-nppbv-requires c κs = search rules
+effective_nppbv-requires : tie.Need-effective_nppbv-requires
+effective_nppbv-requires c κs = search rules
 
-number-in-requires-4 : tie.Need-number_in-requires-4
-number-in-requires-4 c κs = (ready c.requires).nbpr
+number_in-requires-4 : tie.Need-number_in-requires-4
+number_in-requires-4 c κs = (ready c.requires).nbpr
 
-number-in-requires-5 : tie.Need-number_in-requires-5
-number-in-requires-5 c κs = (ready c.requires).nbpc
+number_in-requires-5 : tie.Need-number_in-requires-5
+number_in-requires-5 c κs = (ready c.requires).nbpc
 
 returns : tie.Need-returns
 returns c =
@@ -56,13 +56,13 @@ pub grid_of_parts_spec : {M : Type 1} → statement M
 grid_of_parts_spec =
     tie.close
     (tie.spec
-    number-in-requires
-    number-in-requires-2
-    number-in-requires-3
-    bytes-in-requires
-    mode-from-bytes-requires
-    effective-nppbh-requires
-    effective-nppbv-requires
-    number-in-requires-4
-    number-in-requires-5
+    number_in-requires
+    number_in-requires-2
+    number_in-requires-3
+    bytes_in-requires
+    mode_from_bytes-requires
+    effective_nppbh-requires
+    effective_nppbv-requires
+    number_in-requires-4
+    number_in-requires-5
     returns)

@@ -7,17 +7,17 @@ use Rattle.subheader.specs.Subheader.{parts_fit}
 use Rattle.subheader.proofs.read.parts_fit.Statement.{statement}
 use Rattle.subheader.proofs.read.parts_fit.Tie as tie
 
-returns : tie.Need-returns-then-first-ne-FIRST_BYTES
+returns-then-first-ne-FIRST_BYTES : tie.Need-returns-then-first-ne-FIRST_BYTES
 unfolding parts_fit every
-returns c = simp (ne_eqb _ _ c.if-first-ne-FIRST_BYTES.true)
+returns-then-first-ne-FIRST_BYTES c = simp (ne_eqb _ _ c.if-first-ne-FIRST_BYTES.true)
 
-returns-2 : tie.Need-returns-then-second-ne-SECOND_BYTES
+returns-then-second-ne-SECOND_BYTES : tie.Need-returns-then-second-ne-SECOND_BYTES
 unfolding parts_fit every
-returns-2 c = simp (eq-eqb _ _ c.if-first-ne-FIRST_BYTES.false, ne_eqb _ _ c.if-second-ne-SECOND_BYTES.true)
+returns-then-second-ne-SECOND_BYTES c = simp (eq-eqb _ _ c.if-first-ne-FIRST_BYTES.false, ne_eqb _ _ c.if-second-ne-SECOND_BYTES.true)
 
-returns-3 : tie.Need-returns
+returns : tie.Need-returns
 unfolding parts_fit every
-returns-3 c = simp (eq-eqb _ _ c.if-first-ne-FIRST_BYTES.false, eq-eqb _ _ c.if-second-ne-SECOND_BYTES.false) (every-last _)
+returns c = simp (eq-eqb _ _ c.if-first-ne-FIRST_BYTES.false, eq-eqb _ _ c.if-second-ne-SECOND_BYTES.false) (every-last _)
 
 pub parts_fit_spec : {M : Type 1} → statement M
-parts_fit_spec = tie.close (tie.spec returns returns-2 returns-3)
+parts_fit_spec = tie.close (tie.spec returns-then-first-ne-FIRST_BYTES returns-then-second-ne-SECOND_BYTES returns)

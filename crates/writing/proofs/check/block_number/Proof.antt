@@ -17,21 +17,21 @@ asked : (c : tie.Else-number-ne0)
 unfolding start_number skip_number
 asked c = (buffers-before _ _ _).accepts c.buffers_number-number.ensures c.if-number-ne0.false _
 
-buffers-number-requires : tie.Need-buffers_number-number-requires
-buffers-number-requires c κs = search rules
+buffers_number-number-requires : tie.Need-buffers_number-number-requires
+buffers_number-number-requires c κs = search rules
 
-returns : tie.Need-returns-then-number-ne0
+returns-then-number-ne0 : tie.Need-returns-then-number-ne0
 unfolding start_number skip_number
-returns c = (buffers-before _ _ _).refuses c.buffers_number-number.ensures c.if-number-ne0.true _
+returns-then-number-ne0 c = (buffers-before _ _ _).refuses c.buffers_number-number.ensures c.if-number-ne0.true _
 
-has-block-requires : tie.Need-has_block-requires
-has-block-requires c κs = search rules
+has_block-requires : tie.Need-has_block-requires
+has_block-requires c κs = search rules
 
-returns-2 : tie.Need-returns-then-not-has_block
-returns-2 c = rw (asked c.before.before, no c.has_block.ensures c.if-not-has_block.true)
+returns-then-not-has_block : tie.Need-returns-then-not-has_block
+returns-then-not-has_block c = rw (asked c.before.before, no c.has_block.ensures c.if-not-has_block.true)
 
-returns-3 : tie.Need-returns
-returns-3 c = rw (asked c.before.before, yes c.has_block.ensures c.if-not-has_block.false)
+returns : tie.Need-returns
+returns c = rw (asked c.before.before, yes c.has_block.ensures c.if-not-has_block.false)
 
 pub block_number_spec : {M : Type 1} → statement M
-block_number_spec = tie.close (tie.spec buffers-number-requires returns has-block-requires returns-2 returns-3)
+block_number_spec = tie.close (tie.spec buffers_number-number-requires returns-then-number-ne0 has_block-requires returns-then-not-has_block returns)

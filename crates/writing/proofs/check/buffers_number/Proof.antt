@@ -25,40 +25,40 @@ start c = c.before.before.before.before
 holds : (c : tie.Else-not-fits_in) → let a = (start c).args in q11 a.grid a.image ≡ true
 holds c = yes c.fits_in.ensures c.if-not-fits_in.false
 
-check-requires : tie.Need-check-number-requires
-check-requires c κs = search rules
+check-number-requires : tie.Need-check-number-requires
+check-number-requires c κs = search rules
 
-returns : tie.Need-returns-then-number-ne0
+returns-then-number-ne0 : tie.Need-returns-then-number-ne0
 unfolding grid_number start_number
-returns c = (grid-before _).refuses c.check-number.ensures c.if-number-ne0.true _
+returns-then-number-ne0 c = (grid-before _).refuses c.check-number.ensures c.if-number-ne0.true _
 
-fits-in-requires : tie.Need-fits_in-requires
-fits-in-requires c κs = search rules
+fits_in-requires : tie.Need-fits_in-requires
+fits_in-requires c κs = search rules
 
-returns-2 : tie.Need-returns-then-not-fits_in
+returns-then-not-fits_in : tie.Need-returns-then-not-fits_in
 unfolding start_number
-returns-2 c = rw (grid-yes _ _ (accepted c.before.before), no c.fits_in.ensures c.if-not-fits_in.true)
+returns-then-not-fits_in c = rw (grid-yes _ _ (accepted c.before.before), no c.fits_in.ensures c.if-not-fits_in.true)
 
 blocks-requires : tie.Need-blocks-requires
 blocks-requires c κs = search rules
 
-has-words-requires : tie.Need-has_words-requires
-has-words-requires c κs = rw c.blocks-2.ensures (omega (arith, (facts _ (accepted c.before.before.before)).blocks-le))
+has_words-requires : tie.Need-has_words-requires
+has_words-requires c κs = rw c.blocks-2.ensures (omega (arith, (facts _ (accepted c.before.before.before)).blocks-le))
 
 -- question 12, as the code asks it
 words_are : (c : tie.After-has_words)
     → let a = (start c.before.before).args in c.has_words.result ≡ q12 (blocks a.grid) a.words
 words_are c = rw c.blocks-2.ensures at c.has_words.ensures
 
-returns-3 : tie.Need-returns-then-not-has_words
+returns-then-not-has_words : tie.Need-returns-then-not-has_words
 unfolding start_number
-returns-3 c =
+returns-then-not-has_words c =
     let e = c.before.before.before in
     rw (grid-yes _ _ (accepted e.before.before), holds e, no (words_are c.before) c.if-not-has_words.true)
 
-returns-4 : tie.Need-returns
+returns : tie.Need-returns
 unfolding start_number
-returns-4 c =
+returns c =
     let e = c.before.before.before in
     rw (grid-yes _ _ (accepted e.before.before), holds e, yes (words_are c.before) c.if-not-has_words.false)
 
@@ -66,11 +66,11 @@ pub buffers_number_spec : {M : Type 1} → statement M
 buffers_number_spec =
     tie.close
     (tie.spec
-    check-requires
-    returns
-    fits-in-requires
-    returns-2
+    check-number-requires
+    returns-then-number-ne0
+    fits_in-requires
+    returns-then-not-fits_in
     blocks-requires
-    has-words-requires
-    returns-3
-    returns-4)
+    has_words-requires
+    returns-then-not-has_words
+    returns)

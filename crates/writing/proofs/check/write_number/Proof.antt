@@ -23,11 +23,11 @@ use Rattle.writing.proofs.check.write_number.Statement.{statement}
 use Rattle.writing.proofs.check.write_number.Tie as tie
 
 -- where question 6 is passed, and the function's start
-abbrev past-6 : tie.Else-rows-actual_rows → tie.Else-number-ne0
-past-6 c = c.before.before.before.before
+abbrev past_6 : tie.Else-rows-actual_rows → tie.Else-number-ne0
+past_6 c = c.before.before.before.before
 
 abbrev start : tie.Else-rows-actual_rows → tie.Start
-start c = (past-6 c).before.before.before
+start c = (past_6 c).before.before.before
 
 -- past question 6
 enough : (c : tie.Else-number-ne0)
@@ -59,65 +59,65 @@ shaped c =
 
 -- and no product wraps
 fits : (c : tie.Else-columns-actual_columns) → let a = (start c.before.before).args in DataFits (layout_of a.grid a.block_row a.block_col)
-fits c = let k = enough (past-6 c.before.before) in data_fits _ (sound _ (facts _ k.0.accepted) _ _ k.1)
+fits c = let k = enough (past_6 c.before.before) in data_fits _ (sound _ (facts _ k.0.accepted) _ _ k.1)
 
-block-number-requires : tie.Need-block_number-number-requires
-block-number-requires c κs = search rules
+block_number-number-requires : tie.Need-block_number-number-requires
+block_number-number-requires c κs = search rules
 
-returns : tie.Need-returns-then-number-ne0
+returns-then-number-ne0 : tie.Need-returns-then-number-ne0
 unfolding skip_number write_number
-returns c = (block-before _ _ _ _ _).refuses c.block_number-number.ensures c.if-number-ne0.true _
+returns-then-number-ne0 c = (block-before _ _ _ _ _).refuses c.block_number-number.ensures c.if-number-ne0.true _
 
-cast-if2 : tie.Need-overflow_cast-grid
-cast-if2 c = search rules
+overflow_cast-grid : tie.Need-overflow_cast-grid
+overflow_cast-grid c = search rules
 
-returns-2 : tie.Need-returns-then-bands-grid
+returns-then-bands-grid : tie.Need-returns-then-bands-grid
 unfolding q13 every
-returns-2 c = rw (asked c.before.before, ne_eqb _ _ c.if-bands-grid.true)
+returns-then-bands-grid c = rw (asked c.before.before, ne_eqb _ _ c.if-bands-grid.true)
 
-actual-rows-requires : tie.Need-actual_rows-requires
-actual-rows-requires c κs = let k = enough c.before.before in (k.0.accepted, k.1.in_row)
+actual_rows-requires : tie.Need-actual_rows-requires
+actual_rows-requires c κs = let k = enough c.before.before in (k.0.accepted, k.1.in_row)
 
-returns-3 : tie.Need-returns-then-rows-actual_rows
+returns-then-rows-actual_rows : tie.Need-returns-then-rows-actual_rows
 unfolding q13 every
-returns-3 c = rw (asked c.before.before.before.before, eq-eqb _ _ c.if-bands-grid.false, ne_eqb _ _ (rw c.actual_rows.ensures at c.if-rows-actual_rows.true))
+returns-then-rows-actual_rows c = rw (asked c.before.before.before.before, eq-eqb _ _ c.if-bands-grid.false, ne_eqb _ _ (rw c.actual_rows.ensures at c.if-rows-actual_rows.true))
 
-actual-columns-requires : tie.Need-actual_columns-requires
-actual-columns-requires c κs = let k = enough c.before.before.before.before in (k.0.accepted, k.1.in_column)
+actual_columns-requires : tie.Need-actual_columns-requires
+actual_columns-requires c κs = let k = enough c.before.before.before.before in (k.0.accepted, k.1.in_column)
 
-returns-4 : tie.Need-returns-then-columns-actual_columns
+returns-then-columns-actual_columns : tie.Need-returns-then-columns-actual_columns
 unfolding q13 every
-returns-4 c =
+returns-then-columns-actual_columns c =
     rw (
-      asked (past-6 c.before.before),
+      asked (past_6 c.before.before),
       eq-eqb _ _ c.if-bands-grid.false,
       eq-eqb _ _ (rows_in c.before.before),
       ne_eqb _ _ (rw c.actual_columns.ensures at c.if-columns-actual_columns.true),
     )
 
-sample-bytes-requires : tie.Need-sample_bytes-size-requires
-sample-bytes-requires c κs = (enough (past-6 c.before.before)).0.accepted
+sample_bytes-size-requires : tie.Need-sample_bytes-size-requires
+sample_bytes-size-requires c κs = (enough (past_6 c.before.before)).0.accepted
 
-mul-if5 : tie.Need-overflow_mul-bands
-mul-if5 c =
+overflow_mul-bands : tie.Need-overflow_mul-bands
+overflow_mul-bands c =
     let k = c.before in
     rw (k.if-bands-grid.false, rows_in k.before.before) (record { fits = (fits k).bands-rows })
 
-mul-if5-2 : tie.Need-overflow_mul-bands-2
-mul-if5-2 c =
+overflow_mul-bands-2 : tie.Need-overflow_mul-bands-2
+overflow_mul-bands-2 c =
     let k = c.before in
     rw (k.if-bands-grid.false, rows_in k.before.before, columns_in k) (record { fits = (fits k).samples })
 
-mul-if5-3 : tie.Need-overflow_mul-bands-3
-mul-if5-3 c =
+overflow_mul-bands-3 : tie.Need-overflow_mul-bands-3
+overflow_mul-bands-3 c =
     let k = c.before in
     rw (k.if-bands-grid.false, rows_in k.before.before, columns_in k, c.sample_bytes-size.ensures) (record { fits = (fits k).bytes })
 
-returns-5 : tie.Need-returns-then-data-bands
+returns-then-data-bands : tie.Need-returns-then-data-bands
 unfolding q14
-returns-5 c =
+returns-then-data-bands c =
     let k = c.before.before in
-    rw (asked (past-6 k.before.before), shaped k, ne_eqb _ _ (rw (k.if-bands-grid.false, rows_in k.before.before, columns_in k, c.sample_bytes-size.ensures) at c.if-data-bands.true))
+    rw (asked (past_6 k.before.before), shaped k, ne_eqb _ _ (rw (k.if-bands-grid.false, rows_in k.before.before, columns_in k, c.sample_bytes-size.ensures) at c.if-data-bands.true))
 
 -- past question 14
 sized : (c : tie.Else-data-bands)
@@ -132,13 +132,13 @@ sized c =
 size_of : (n : ℕ) → 0 < n → n ≤ 64 → (0 < ceil_div n 8) × (ceil_div n 8 ≤ 8) × (8 * ceil_div n 8 < n + 8) × (n ≤ 8 * ceil_div n 8)
 size_of n h l = omega arith
 
-cast-all-fit : tie.Need-overflow_cast-grid-2
-cast-all-fit c = search rules
+overflow_cast-grid-2 : tie.Need-overflow_cast-grid-2
+overflow_cast-grid-2 c = search rules
 
-all-fit-requires : tie.Need-all_fit-requires
-all-fit-requires c κs =
+all_fit-requires : tie.Need-all_fit-requires
+all_fit-requires c κs =
     let k = c.before.before.before in
-    let f = facts _ (enough (past-6 k.before.before)).0.accepted in
+    let f = facts _ (enough (past_6 k.before.before)).0.accepted in
     rw c.sample_bytes-size.ensures (size_of _ f.sides.nbpp-pos f.sides.nbpp-le)
 
 -- what the test of the samples says
@@ -147,36 +147,36 @@ fit_is : (c : tie.After-all_fit)
 unfolding q26
 fit_is c = rw c.sample_bytes-size.ensures at c.all_fit.ensures
 
-returns-6 : tie.Need-returns-then-not-all_fit
-returns-6 c =
+returns-then-not-all_fit : tie.Need-returns-then-not-all_fit
+returns-then-not-all_fit c =
     let d = c.before.before.before in
     let k = d.before.before in
-    rw (asked (past-6 k.before.before), shaped k, sized d, no (fit_is c.before) c.if-not-all_fit.true)
+    rw (asked (past_6 k.before.before), shaped k, sized d, no (fit_is c.before) c.if-not-all_fit.true)
 
-returns-7 : tie.Need-returns
-returns-7 c =
+returns : tie.Need-returns
+returns c =
     let d = c.before.before.before in
     let k = d.before.before in
-    rw (asked (past-6 k.before.before), shaped k, sized d, yes (fit_is c.before) c.if-not-all_fit.false)
+    rw (asked (past_6 k.before.before), shaped k, sized d, yes (fit_is c.before) c.if-not-all_fit.false)
 
 pub write_number_spec : {M : Type 1} → statement M
 write_number_spec =
     tie.close
     (tie.spec
-    block-number-requires
-    returns
-    cast-if2
-    returns-2
-    actual-rows-requires
-    returns-3
-    actual-columns-requires
-    returns-4
-    sample-bytes-requires
-    mul-if5
-    mul-if5-2
-    mul-if5-3
-    returns-5
-    cast-all-fit
-    all-fit-requires
-    returns-6
-    returns-7)
+    block_number-number-requires
+    returns-then-number-ne0
+    overflow_cast-grid
+    returns-then-bands-grid
+    actual_rows-requires
+    returns-then-rows-actual_rows
+    actual_columns-requires
+    returns-then-columns-actual_columns
+    sample_bytes-size-requires
+    overflow_mul-bands
+    overflow_mul-bands-2
+    overflow_mul-bands-3
+    returns-then-data-bands
+    overflow_cast-grid-2
+    all_fit-requires
+    returns-then-not-all_fit
+    returns)

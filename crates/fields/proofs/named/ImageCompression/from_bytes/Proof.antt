@@ -7,21 +7,21 @@ use Rattle.fields.specs.Named.{value_of}
 use Rattle.fields.proofs.named.ImageCompression.from_bytes.Statement.{statement}
 use Rattle.fields.proofs.named.ImageCompression.from_bytes.Tie as tie
 
-returns : tie.Need-returns-then-same_bytes
+returns-then-same_bytes : tie.Need-returns-then-same_bytes
 unfolding value_of pick
-returns c = simp (sym c.same_bytes.ensures ∙ c.if-same_bytes.true)
+returns-then-same_bytes c = simp (sym c.same_bytes.ensures ∙ c.if-same_bytes.true)
 
-returns-2 : tie.Need-returns-then-same_bytes-2
+returns-then-same_bytes-2 : tie.Need-returns-then-same_bytes-2
 unfolding value_of pick
-returns-2 c =
+returns-then-same_bytes-2 c =
     simp (
       sym c.same_bytes.ensures ∙ c.if-same_bytes.false,
       sym c.same_bytes-2.ensures ∙ c.if-same_bytes-2.true,
     )
 
-returns-3 : tie.Need-returns
+returns : tie.Need-returns
 unfolding value_of pick
-returns-3 c =
+returns c =
     simp (
       sym c.same_bytes.ensures ∙ c.if-same_bytes.false,
       sym c.same_bytes-2.ensures ∙ c.if-same_bytes-2.false,
@@ -30,5 +30,5 @@ returns-3 c =
 pub from_bytes_spec : {M : Type 1} → statement M
 from_bytes_spec =
     tie.close
-    (tie.spec (λ c κs. search rules) returns (λ c κs. search rules) returns-2
-    returns-3)
+    (tie.spec (λ c κs. search rules) returns-then-same_bytes (λ c κs. search rules) returns-then-same_bytes-2
+    returns)

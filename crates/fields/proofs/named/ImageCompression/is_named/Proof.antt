@@ -7,17 +7,17 @@ use Rattle.fields.proofs.Values.{named_by}
 use Rattle.fields.proofs.named.ImageCompression.is_named.Statement.{statement}
 use Rattle.fields.proofs.named.ImageCompression.is_named.Tie as tie
 
-from-bytes-requires : tie.Need-from_bytes-requires
-from-bytes-requires c κs = search rules
+from_bytes-requires : tie.Need-from_bytes-requires
+from_bytes-requires c κs = search rules
 
-to-bytes-requires : tie.Need-to_bytes-text-requires
-to-bytes-requires c κs = search rules
+to_bytes-text-requires : tie.Need-to_bytes-text-requires
+to_bytes-text-requires c κs = search rules
 
-slice-aggregate-same-bytes : tie.Need-slice_bounds-same_bytes-end
-slice-aggregate-same-bytes c = search rules
+slice_bounds-same_bytes-end : tie.Need-slice_bounds-same_bytes-end
+slice_bounds-same_bytes-end c = search rules
 
-same-bytes-requires : tie.Need-same_bytes-requires
-same-bytes-requires c κs = search rules
+same_bytes-requires : tie.Need-same_bytes-requires
+same_bytes-requires c κs = search rules
 
 returns : tie.Need-returns
 returns c =
@@ -28,8 +28,8 @@ pub is_named_spec : {M : Type 1} → statement M
 is_named_spec =
     tie.close
     (tie.spec
-    from-bytes-requires
-    to-bytes-requires
-    slice-aggregate-same-bytes
-    same-bytes-requires
+    from_bytes-requires
+    to_bytes-text-requires
+    slice_bounds-same_bytes-end
+    same_bytes-requires
     returns)

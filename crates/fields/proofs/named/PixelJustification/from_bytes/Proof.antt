@@ -7,27 +7,27 @@ use Rattle.fields.specs.Named.{value_of}
 use Rattle.fields.proofs.named.PixelJustification.from_bytes.Statement.{statement}
 use Rattle.fields.proofs.named.PixelJustification.from_bytes.Tie as tie
 
-same-bytes-requires : tie.Need-same_bytes-requires
-same-bytes-requires c κs = search rules
+same_bytes-requires : tie.Need-same_bytes-requires
+same_bytes-requires c κs = search rules
 
-returns : tie.Need-returns-then-same_bytes
+returns-then-same_bytes : tie.Need-returns-then-same_bytes
 unfolding value_of pick
-returns c = simp (sym c.same_bytes.ensures ∙ c.if-same_bytes.true)
+returns-then-same_bytes c = simp (sym c.same_bytes.ensures ∙ c.if-same_bytes.true)
 
-same-bytes-requires-2 : tie.Need-same_bytes-requires-2
-same-bytes-requires-2 c κs = search rules
+same_bytes-requires-2 : tie.Need-same_bytes-requires-2
+same_bytes-requires-2 c κs = search rules
 
-returns-2 : tie.Need-returns-then-same_bytes-2
+returns-then-same_bytes-2 : tie.Need-returns-then-same_bytes-2
 unfolding value_of pick
-returns-2 c =
+returns-then-same_bytes-2 c =
     simp (
       sym c.same_bytes.ensures ∙ c.if-same_bytes.false,
       sym c.same_bytes-2.ensures ∙ c.if-same_bytes-2.true,
     )
 
-returns-3 : tie.Need-returns
+returns : tie.Need-returns
 unfolding value_of pick
-returns-3 c =
+returns c =
     simp (
       sym c.same_bytes.ensures ∙ c.if-same_bytes.false,
       sym c.same_bytes-2.ensures ∙ c.if-same_bytes-2.false,
@@ -37,8 +37,8 @@ pub from_bytes_spec : {M : Type 1} → statement M
 from_bytes_spec =
     tie.close
     (tie.spec
-    same-bytes-requires
-    returns
-    same-bytes-requires-2
-    returns-2
-    returns-3)
+    same_bytes-requires
+    returns-then-same_bytes
+    same_bytes-requires-2
+    returns-then-same_bytes-2
+    returns)

@@ -7,30 +7,30 @@ use Rattle.fields.specs.Named.{value_of}
 use Rattle.fields.proofs.named.PixelValueType.from_bytes.Statement.{statement}
 use Rattle.fields.proofs.named.PixelValueType.from_bytes.Tie as tie
 
-returns : tie.Need-returns-then-same_bytes
+returns-then-same_bytes : tie.Need-returns-then-same_bytes
 unfolding value_of pick
-returns c = simp (sym c.same_bytes.ensures ∙ c.if-same_bytes.true)
+returns-then-same_bytes c = simp (sym c.same_bytes.ensures ∙ c.if-same_bytes.true)
 
-returns-2 : tie.Need-returns-then-same_bytes-2
+returns-then-same_bytes-2 : tie.Need-returns-then-same_bytes-2
 unfolding value_of pick
-returns-2 c =
+returns-then-same_bytes-2 c =
     simp (
       sym c.same_bytes.ensures ∙ c.if-same_bytes.false,
       sym c.same_bytes-2.ensures ∙ c.if-same_bytes-2.true,
     )
 
-returns-3 : tie.Need-returns-then-same_bytes-3
+returns-then-same_bytes-3 : tie.Need-returns-then-same_bytes-3
 unfolding value_of pick
-returns-3 c =
+returns-then-same_bytes-3 c =
     simp (
       sym c.same_bytes.ensures ∙ c.if-same_bytes.false,
       sym c.same_bytes-2.ensures ∙ c.if-same_bytes-2.false,
       sym c.same_bytes-3.ensures ∙ c.if-same_bytes-3.true,
     )
 
-returns-4 : tie.Need-returns-then-same_bytes-4
+returns-then-same_bytes-4 : tie.Need-returns-then-same_bytes-4
 unfolding value_of pick
-returns-4 c =
+returns-then-same_bytes-4 c =
     simp (
       sym c.same_bytes.ensures ∙ c.if-same_bytes.false,
       sym c.same_bytes-2.ensures ∙ c.if-same_bytes-2.false,
@@ -38,9 +38,9 @@ returns-4 c =
       sym c.same_bytes-4.ensures ∙ c.if-same_bytes-4.true,
     )
 
-returns-5 : tie.Need-returns-then-same_bytes-5
+returns-then-same_bytes-5 : tie.Need-returns-then-same_bytes-5
 unfolding value_of pick
-returns-5 c =
+returns-then-same_bytes-5 c =
     simp (
       sym c.same_bytes.ensures ∙ c.if-same_bytes.false,
       sym c.same_bytes-2.ensures ∙ c.if-same_bytes-2.false,
@@ -49,9 +49,9 @@ returns-5 c =
       sym c.same_bytes-5.ensures ∙ c.if-same_bytes-5.true,
     )
 
-returns-6 : tie.Need-returns
+returns : tie.Need-returns
 unfolding value_of pick
-returns-6 c =
+returns c =
     simp (
       sym c.same_bytes.ensures ∙ c.if-same_bytes.false,
       sym c.same_bytes-2.ensures ∙ c.if-same_bytes-2.false,
@@ -63,6 +63,6 @@ returns-6 c =
 pub from_bytes_spec : {M : Type 1} → statement M
 from_bytes_spec =
     tie.close
-    (tie.spec (λ c κs. search rules) returns (λ c κs. search rules) returns-2
-    (λ c κs. search rules) returns-3 (λ c κs. search rules) returns-4
-    (λ c κs. search rules) returns-5 returns-6)
+    (tie.spec (λ c κs. search rules) returns-then-same_bytes (λ c κs. search rules) returns-then-same_bytes-2
+    (λ c κs. search rules) returns-then-same_bytes-3 (λ c κs. search rules) returns-then-same_bytes-4
+    (λ c κs. search rules) returns-then-same_bytes-5 returns)
