@@ -4,8 +4,6 @@
 ghost use Rattle.std.specs.Prelude.{◌≡◌, ◌+◌, ◌*◌, ◌/◌, ◌%◌, ◌^◌, ◌≤◌, ◌<◌, length};
 ghost use Rattle.bits.specs.Bits.{bits_at, put_bits, with_field};
 
-use common::min;
-
 pub mod bytes;
 
 // The n bits of x from bit `low` up.
@@ -35,10 +33,11 @@ pub fn get_bits(buf: &[u8], at: usize, width: usize) -> u64
 {
     let mut acc: u64 = 0;
     let mut done: usize = 0;
+    // by bytes, which hold unequal numbers of the bits: `successors` would work each step out of the place, no plainer
     while done < width {
         let p = at + done;
         let room = 8 - p % 8;
-        let n = min(width - done, room);
+        let n = room.min(width - done);
         let f = field(buf[p / 8] as u64, room - n, n);
         acc = (acc << n) | f;
         done += n;
@@ -52,10 +51,11 @@ pub fn put_bits(buf: &mut [u8], at: usize, width: usize, value: u64)
     ensures { buf.new ≡ put_bits buf.old at width value }
 {
     let mut done: usize = 0;
+    // by bytes, as in `get_bits`
     while done < width {
         let p = at + done;
         let room = 8 - p % 8;
-        let n = min(width - done, room);
+        let n = room.min(width - done);
         let f = field(value, width - done - n, n);
         let i = p / 8;
         buf[i] = merge(buf[i], room - n, n, f);

@@ -2,3 +2,4 @@
 pub mod Numbers
 pub mod Fit
 pub mod WindowLaws
+pub mod Refused

@@ -3,3 +3,4 @@ pub mod Answers
 pub mod Orders
 pub mod Reads
 pub mod Writes
+pub mod Results

@@ -1,6 +1,6 @@
 -- Writing: start, write, skip, progress and finish.
 -- Assumes nothing.
-use Rattle.std.specs.Prelude.{ℕ, ◌+◌, ◌*◌, ◌%◌, ◌^◌, Bool, true, false, List, length, replicate}
+use Rattle.std.specs.Prelude.{ℕ, ◌+◌, ◌*◌, ◌%◌, ◌^◌, Bool, true, false, List, Option, length, replicate}
 use Rattle.common.specs.Questions.{outcome}
 use Rattle.common.specs.Over.{over}
 use Rattle.common.specs.Turns.{iter}
@@ -9,7 +9,6 @@ use Rattle.grid.specs.declared.Grid.{Grid}
 use Rattle.grid.specs.Sizes.{sample_bytes, band_bytes, blocks, image_bytes, block_index}
 use Rattle.grid.specs.Sizes.{actual_rows, actual_columns, byte_multiple}
 use Rattle.grid.specs.Layout.{run_byte, place}
-use Rattle.marks.specs.declared.FirstUnmarked.{FirstUnmarked}
 use Rattle.marks.specs.Marks.{mark_words, marked, mark, count, first_not, unmarked_number, unmarked_row, unmarked_column}
 use Rattle.calls.specs.declared.Answer.{Answer}
 use Rattle.calls.specs.Answers.{FrameOut}
@@ -24,7 +23,7 @@ number n = record { number = n; first = 0; second = 0 }
 abbrev pub progress_answer : ℕ → Grid → (ℕ → Bool) → Answer
 progress_answer n g test = outcome n (record { number = 0; first = count (blocks g) test; second = 0 }) number
 
-abbrev pub unmarked_answer : FirstUnmarked → Answer
+abbrev pub unmarked_answer : Option (ℕ × ℕ) → Answer
 unmarked_answer u = record { number = unmarked_number u; first = unmarked_row u; second = unmarked_column u }
 
 -- the first block that does not pass the test, by the number of the questions before 15

@@ -1,135 +1,119 @@
 // The cube: sample (band, row, column) is band * 256 + row * 16 + column.
-ghost use Rattle.std.specs.Prelude.{◌≡◌, ◌<◌, ◌≤◌, length};
+ghost use Rattle.std.specs.Prelude.{◌+◌, ◌*◌, ◌≤◌};
 
-use calls::Shape;
+use calls::Extent;
 use grid::{EdgeRule, Grid};
 use layout::InterleaveMode;
+use refusals::Refusal;
 
-fn mode(i: usize) -> InterleaveMode {
-    match i {
-        0 => InterleaveMode::B,
-        1 => InterleaveMode::P,
-        2 => InterleaveMode::R,
-        _ => InterleaveMode::S,
-    }
-}
-
-pub fn grid_in(i: usize) -> Grid {
-    Grid::new(5, 7, 3, 12, mode(i), EdgeRule::Tight, 4, 3)
-}
-
-// Actual rows of a block.
-fn rows_of(block_row: u32) -> usize
-    ensures { (0 < result) × (result ≤ 3) }
-{
-    if block_row == 0 { 3 } else { 2 }
-}
-
-// Actual columns of a block.
-fn columns_of(block_col: u32) -> usize
-    ensures { (0 < result) × (result ≤ 4) }
-{
-    if block_col == 0 { 4 } else { 3 }
-}
-
-// A block: its actual rows and columns, and the row and column of the cube where it starts.
+// The rows and columns of the cube that a block has.
 #[derive(Clone, Copy)]
 struct Block {
-    rows: usize,
-    columns: usize,
-    top: usize,
-    left: usize,
+    top: u16,
+    left: u16,
+    rows: u16,
+    columns: u16,
+    ghost inside: { (top + rows ≤ 5) × (left + columns ≤ 7) },
+    ghost few: { rows * columns ≤ 12 },
 }
 
-fn block_at(row: u32, column: u32) -> Block
-    ensures { (0 < result.rows) × (0 < result.columns) × (result.rows ≤ 3) × (result.columns ≤ 4) }
-{
+fn block_at(row: u32, column: u32) -> Block {
+    let (top, rows) = if row == 0 { (0, 3) } else { (3, 2) };
+    let (left, columns) = if column == 0 { (0, 4) } else { (4, 3) };
     Block {
-        rows: rows_of(row),
-        columns: columns_of(column),
-        top: row as usize * 3,
-        left: column as usize * 4,
+        top,
+        left,
+        rows,
+        columns,
     }
 }
 
-// Sample k of a block, band by band, row by row.
-fn value(p: Block, k: usize) -> usize
-    requires { (0 < p.rows) × (0 < p.columns) }
-    ensures { result < 4096 }
-{
-    let line = k / p.columns;
-    let column = p.left % 8 + k % p.columns % 8;
-    let row = p.top % 8 + line % p.rows % 8;
-    let band = line / p.rows;
-    band % 16 * 256 + row * 16 + column
-}
-
-fn put_sample(bytes: &mut [u8], p: Block, k: usize)
-    requires { (0 < p.rows) × (0 < p.columns) × (k < 1000) }
-    ensures { length bytes.new ≡ length bytes.old }
-{
-    let v = value(p, k);
-    if 2 * k + 1 < bytes.len() {
-        bytes[2 * k] = (v / 256) as u8;
-        bytes[2 * k + 1] = (v % 256) as u8;
+impl Block {
+    // Its samples, band by band and row by row, each in two bytes.
+    fn samples(self) -> [u8; 72] {
+        let mut bytes = [0u8; 72];
+        let (cells, _) = bytes.as_chunks_mut::<2>();
+        let mut cells = cells.iter_mut();
+        for band in 0..3 {
+            for row in self.top..self.top + self.rows {
+                for column in self.left..self.left + self.columns {
+                    if let Some(cell) = cells.next() {
+                        *cell = (band * 256 + row * 16 + column).to_be_bytes();
+                    }
+                }
+            }
+        }
+        bytes
     }
 }
 
-// The samples of a block of at most 36, each in two bytes.
-fn fill(bytes: &mut [u8], p: Block)
-    requires { (0 < p.rows) × (0 < p.columns) }
-    ensures { length bytes.new ≡ length bytes.old }
-{
-    for k in 0..36 {
-        put_sample(bytes, p, k);
+// The cube's image and the marks of its blocks.
+#[derive(Clone, Copy)]
+pub struct Cube {
+    mode: InterleaveMode,
+    image: [u8; 216],
+    marks: [u64; 1],
+}
+
+impl Cube {
+    fn grid(&self) -> Grid {
+        Grid::new(5, 7, 3, 12, self.mode, EdgeRule::Tight, 4, 3)
     }
-}
 
-// Bytes of a block's data: 3 bands of 4 or 3 columns, 2 bytes a sample.
-fn data_bytes(p: Block) -> usize
-    requires { p.rows ≤ 3 }
-    ensures { result ≤ 72 }
-{
-    if p.columns == 4 {
-        p.rows * 24
-    } else {
-        p.rows * 18
+    fn write_block(&mut self, row: u32, column: u32) -> Result<(), Refusal> {
+        let grid = self.grid();
+        let block = block_at(row, column);
+        let shape = Extent {
+            bands: 3,
+            rows: block.rows as usize,
+            columns: block.columns as usize,
+        };
+        writing::encode_block(
+            &mut self.image,
+            &mut self.marks,
+            grid,
+            row,
+            column,
+            shape,
+            &block.samples()[..6 * (shape.rows * shape.columns)],
+        )
     }
-}
 
-fn write_block(image: &mut [u8], marks: &mut [u64], i: usize, row: u32, column: u32) {
-    let p = block_at(row, column);
-    let mut data = [0u8; 72];
-    fill(&mut data, p);
-    let n = data_bytes(p);
-    writing::encode_block(
-        image,
-        marks,
-        grid_in(i),
-        row,
-        column,
-        3,
-        p.rows,
-        p.columns,
-        &data[..n],
-    );
-}
+    // The cube with all blocks written but the one at block row 1, block column 0.
+    pub fn all_but_one(mode: InterleaveMode) -> Result<Cube, Refusal> {
+        let mut cube = Cube {
+            mode,
+            image: [0; 216],
+            marks: [0; 1],
+        };
+        let grid = cube.grid();
+        writing::start(&mut cube.image, &mut cube.marks, grid)?;
+        cube.write_block(0, 0)?;
+        cube.write_block(0, 1)?;
+        cube.write_block(1, 1)?;
+        Ok(cube)
+    }
 
-// Starts the cube and writes all blocks but the one at block row 1, block column 0.
-pub fn write_all_but_one(image: &mut [u8], marks: &mut [u64], i: usize) {
-    writing::start(image, marks, grid_in(i));
-    write_block(image, marks, i, 0, 0);
-    write_block(image, marks, i, 0, 1);
-    write_block(image, marks, i, 1, 1);
-}
+    // The cube with all blocks written.
+    pub fn whole(mode: InterleaveMode) -> Result<Cube, Refusal> {
+        let mut cube = Self::all_but_one(mode)?;
+        cube.write_block(1, 0)?;
+        Ok(cube)
+    }
 
-// Starts the cube and writes all blocks.
-pub fn write_all(image: &mut [u8], marks: &mut [u64], i: usize) {
-    write_all_but_one(image, marks, i);
-    write_block(image, marks, i, 1, 0);
-}
+    // Reads listed bands of a block.
+    pub fn read(
+        &self,
+        row: u32,
+        column: u32,
+        list: &[u32],
+        out: &mut [u8],
+    ) -> Result<Extent, Refusal> {
+        reading::decode_block(&self.image, self.grid(), row, column, 0, Some(list), out)
+    }
 
-// Reads listed bands of a block.
-pub fn read(image: &[u8], i: usize, row: u32, column: u32, list: &[u32], out: &mut [u8]) -> Shape {
-    reading::decode_block(image, grid_in(i), row, column, 0, false, list, out)
+    // Asks whether the frame is done.
+    pub fn finalize(&self) -> Result<(), Refusal> {
+        writing::finalize(&self.image, &self.marks, self.grid())
+    }
 }

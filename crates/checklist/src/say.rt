@@ -1,89 +1,68 @@
 // What is printed.
-ghost use Rattle.std.specs.Prelude.{◌<◌, ◌≤◌};
+use layout::InterleaveMode;
+use refusals::Refusal;
+use std::fmt::{self, Display};
+use std::io;
 
-const OUT: i32 = 1;
+// Numbers, with a space before each.
+#[derive(Clone, Copy, PartialEq, Eq)]
+pub struct Numbers<const N: usize>(pub [usize; N]);
 
-const LETTERS: [u8; 4] = [b'B', b'P', b'R', b'S'];
-
-pub fn say(text: &[u8]) {
-    io::write_all(OUT, text);
-}
-
-pub fn say_number(n: u64) {
-    say(b" ");
-    io::print_decimal(OUT, n);
-}
-
-pub fn say_mode(i: usize) {
-    say(b" ");
-    if i < 4 {
-        let letter = [LETTERS[i]];
-        say(&letter);
+impl<const N: usize> Display for Numbers<N> {
+    fn fmt<W: fmt::Write>(&self, f: &mut fmt::Formatter<W>) -> fmt::Result {
+        for number in self.0 {
+            write!(f, " {number}")?;
+        }
+        Ok(())
     }
 }
 
-// The end of a line: did all four modes give what was expected?
-pub fn say_verdict(b: bool, p: bool, r: bool, s: bool) {
-    if b && p && r && s {
-        say(b": as expected\n");
+// The rows and columns of a read, and its samples of two bytes.
+#[derive(Clone, Copy, PartialEq, Eq)]
+pub struct Samples {
+    pub rows: usize,
+    pub columns: usize,
+    pub bytes: [u8; 24],
+}
+
+// The samples in three hexadecimal digits, with a space before each.
+impl Display for Samples {
+    fn fmt<W: fmt::Write>(&self, f: &mut fmt::Formatter<W>) -> fmt::Result {
+        let (samples, _) = self.bytes.as_chunks::<2>();
+        for sample in samples {
+            write!(f, " {:03x}", u16::from_be_bytes(*sample))?;
+        }
+        Ok(())
+    }
+}
+
+// A line: what came in each mode, and whether it is what was expected.
+pub fn say<T: Display + PartialEq + Drop, F: Fn(InterleaveMode) -> Result<T, Refusal>>(
+    rt: &impl Print,
+    label: &str,
+    expected: &T,
+    came: F,
+) -> io::Result<()>
+    requires { F.IsAlwaysCallable came }
+{
+    print!(rt; "{label}; came")?;
+    let mut as_expected = true;
+    for mode in InterleaveMode::ALL {
+        match came(mode) {
+            Ok(value) => {
+                print!(rt; " {mode}{value}")?;
+                as_expected = as_expected && value == *expected;
+            }
+            Err(refusal) => {
+                print!(rt; " {mode} refused by {}", refusal.number())?;
+                as_expected = false;
+            }
+        }
+    }
+    let verdict = if as_expected {
+        "as expected"
     } else {
-        say(b": NOT as expected\n");
-    }
-}
-
-fn two_bytes(high: u8, low: u8) -> u64 {
-    high as u64 * 256 + low as u64
-}
-
-fn say_sample(data: &[u8], k: usize)
-    requires { k < 4611686018427387904 }
-{
-    if 2 * k + 1 < data.len() {
-        say(b" ");
-        io::print_hex(OUT, two_bytes(data[2 * k], data[2 * k + 1]), 3);
-    }
-}
-
-// Samples of two bytes, as three hexadecimal digits.
-pub fn say_samples(data: &[u8]) {
-    for k in 0..12 {
-        say_sample(data, k);
-    }
-}
-
-fn one_if_written(byte: u8) -> usize
-    ensures { result ≤ 1 }
-{
-    if byte == 0xFF { 0 } else { 1 }
-}
-
-// How many bytes of an output that held 0xFF before were written: no sample of the cube has such a byte.
-pub fn written(out: &[u8]) -> usize {
-    let mut sum = 0;
-    for i in 0..out.len() {
-        sum += one_if_written(out[i]);
-    }
-    sum
-}
-
-// Is byte i of both the same? 0 where it is.
-fn differs(a: &[u8], b: &[u8], i: usize) -> usize
-    ensures { result ≤ 1 }
-{
-    if i >= a.len() {
-        return 1;
-    }
-    if i >= b.len() {
-        return 1;
-    }
-    if a[i] == b[i] { 0 } else { 1 }
-}
-
-// Are the bytes the same?
-pub fn same(a: &[u8], b: &[u8]) -> bool {
-    let mut sum = 0;
-    for i in 0..b.len() {
-        sum += differs(a, b, i);
-    }
-    sum == 0 && a.len() == b.len()
+        "NOT as expected"
+    };
+    println!(rt; ": {verdict}")
 }

@@ -6,4 +6,3 @@ pub mod Arith
 pub mod Over
 pub mod Turns
 pub mod Loops
-pub mod Zeros

@@ -3,10 +3,11 @@
 use mathlib.Core.Path.{◌≡◌, sym, ap, ap₂, ◌∙◌}
 use mathlib.Core.List.{List, [], ◌∷◌, ◌++◌, append_assoc, append-nil}
 use Prim.Native.Nat.{ℕ, ◌+◌, ◌-◌, ◌≤◌, ◌<◌}
-use native.Mathlib.Nat.{add-zero, add_assoc}
+use native.Mathlib.Nat.{add-zero, zero-add, add_assoc}
 use native.Mathlib.Numerals.{add-one}
 use native.Mathlib.Omega.{arith}
-use lib.ListN.{length, get_or, set, take, drop, length-append, length-take, length-drop, take-append-drop, get_or-append}
+use borrow.Rule.Slice.PartMut.{put_mid}
+use lib.ListN.{length, get_or, set, take, drop, replicate, length-append, length-take, length-drop, length-replicate, take-append-drop, get_or-append}
 use Rattle.common.specs.Over.{over}
 use lib.Seq.{length-take-le, take_at, drop_at, drop-drop, set_split, get_or-take, get_or-drop, get_or-append-add, append_snoc, take-take, take-add, drop-append-le}
 
@@ -86,3 +87,19 @@ module _ {ℓ} {A : Type ℓ} where
       sym (drop-append-le (o + length vs) m rest (omega arith)) ∙ ap (drop (o + length vs)) (take-append-drop k (drop a d)) ∙ drop-drop (o + length vs) a d
       ∙ ap (λ (i : ℕ). drop i d) (sym (add_assoc a o (length vs))) in
       rw (e₁, take-add a o d) (simp append_assoc (ap (λ (z : List A). take a d ++ (take o (drop a d) ++ (vs ++ z))) e₂))
+
+-- ---- a part that was written whole, as by `fill` or `copy_from_slice`
+
+module _ {A : Type 0} where
+  -- `d[a..a + k]`
+  pub part_over : (d : List A) (a k : ℕ) (ws vs : List A) → ws ≡ vs → length vs ≡ k → put_mid a k d ws ≡ over d a vs
+  unfolding over
+  part_over d a k ws vs w e =
+      ap (λ (l : List A). take a d ++ (l ++ drop k (drop a d))) w
+      ∙ sym (append_assoc (take a d) vs (drop k (drop a d)))
+      ∙ ap (λ (l : List A). take a d ++ vs ++ l) (drop-drop k a d ∙ ap (λ (n : ℕ). drop (a + n) d) (sym e))
+
+  -- `d[..n]`, filled with v
+  pub front_filled : (d : List A) (n : ℕ) (v : A) {ws : List A} → n ≤ length d → ws ≡ replicate (length (take n d)) v → ws ++ drop n d ≡ over d 0 (replicate n v)
+  unfolding over
+  front_filled d n v h e = rw (e, length-take-le n d h, zero-add, length-replicate {A = A} n v)

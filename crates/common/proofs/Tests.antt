@@ -1,12 +1,14 @@
 -- Laws of tests: what they tell where they pass, and tests that go through a flag.
 -- Assumes nothing.
 use mathlib.Core.Path.{◌≡◌, refl, sym, ◌∙◌, subst}
-use mathlib.Core.Bool.{Bool, true, false}
+use mathlib.Core.Bool.{Bool, true, false, ◌&&◌}
 use mathlib.Core.List.{List, [], ◌∷◌}
-use Prim.Native.Nat.{ℕ, zero, suc, ◌+◌, ◌-◌, ◌≤◌, ◌<◌}
+use Prim.Native.Nat.{ℕ, zero, suc, ◌+◌, ◌-◌, ◌*◌, ◌/◌, ◌%◌, ◌≤◌, ◌<◌}
+use native.Mathlib.Nat.{div-add-mod', div-lt_iff_lt-mul, mod-lt}
 use native.Mathlib.Decide.{ℕ_discrete, dec_lt}
 use native.Mathlib.Numerals.{add-one}
 use native.Mathlib.Omega.{arith}
+use lib.Arith.{digits_lt}
 use lib.ListN.{get_or}
 use borrow.Author.Tests.{leb-true}
 use Rattle.common.specs.Tests.{every, some, within, pick, all_below}
@@ -125,3 +127,34 @@ below_less a n f l t = fails (all_below n f) (λ all. all-below a f (λ k h. bel
     fails : (b : Bool) → (b ≡ true → all_below a f ≡ true) → b ≡ false
     fails true h = sym (h refl) ∙ t
     fails false h = refl
+
+-- the first a, and those after them
+pub below-and : (a n : ℕ) (f : ℕ → Bool) → a ≤ n → (all_below a f && all_below (n - a) (λ k. f (a + k))) ≡ all_below n f
+below-and a n f l = go (all_below a f) refl
+  where
+    go : (b : Bool) → all_below a f ≡ b → (b && all_below (n - a) (λ k. f (a + k))) ≡ all_below n f
+    go true t = below_more a n f l t
+    go false t = sym (below_less a n f l t)
+
+-- n by n
+pub below-nested : (a n : ℕ) (f : ℕ → Bool) → all_below a (λ q. all_below n (λ i. f (q * n + i))) ≡ all_below (a * n) f
+below-nested a n f =
+    both_yes _ _
+    (λ all. all-below (a * n) f (λ k h. one all k h (positive k n h)))
+    (λ all. all-below a _ (λ q h. all-below n _ (λ i l. below_at (a * n) f all (q * n + i) (digits_lt h l))))
+  where
+    positive : (k m : ℕ) → k < a * m → 0 < m
+    positive k zero h = absurd (omega arith)
+    positive k (suc m) h = omega arith
+
+    one : all_below a (λ q. all_below n (λ i. f (q * n + i))) ≡ true → (k : ℕ) → k < a * n → 0 < n → f k ≡ true
+    one all k h pos =
+        subst (λ (x : ℕ). f x ≡ true) (div-add-mod' k n)
+        (below_at n _ (below_at a _ all (k / n) ((div-lt_iff_lt-mul pos).1 h)) (k % n) (mod-lt k pos))
+
+-- by rows, or by columns
+pub below-swap : (a n : ℕ) (f : ℕ → ℕ → Bool) → all_below a (λ i. all_below n (f i)) ≡ all_below n (λ q. all_below a (λ i. f i q))
+below-swap a n f =
+    both_yes _ _
+    (λ all. all-below n _ (λ q h. all-below a _ (λ i l. below_at n _ (below_at a _ all i l) q h)))
+    (λ all. all-below a _ (λ i l. all-below n _ (λ q h. below_at a _ (below_at n _ all q h) i l)))

@@ -1,7 +1,7 @@
 -- Laws of digits: a number that fits comes back from its digits.
 -- Assumes nothing.
-use mathlib.Core.Path.{◌≡◌, refl, ap, ◌∙◌}
-use mathlib.Core.Bool.{true, false}
+use mathlib.Core.Path.{◌≡◌, refl, ap, ap₂, ◌∙◌}
+use mathlib.Core.Bool.{Bool, true, false, ◌&&◌}
 use mathlib.Core.List.{List, [], ◌∷◌, ◌++◌}
 use Prim.Native.Nat.{ℕ, zero, suc, ◌+◌, ◌-◌, ◌*◌, ◌/◌, ◌%◌, ◌^◌, ◌≤◌, ◌<◌}
 use native.Mathlib.Nat.{pow-suc, pow-zero, mul_assoc, mul_comm, mul-le-mul_right}
@@ -10,9 +10,12 @@ use native.Mathlib.Omega.{arith}
 use borrow.Author.Tests.{le-leb}
 use lib.ListN.{length, get_or, drop, length-append}
 use lib.Seq.{drop-cons}
+use lib.Dec.{leb}
+use Rattle.std.specs.Char.{is_ascii_digit}
+use Rattle.std.specs.List.{list_all}
 use Rattle.common.specs.Tests.{every, within}
 use Rattle.digits.specs.Digits.{is_digit, are_digits, with_digits, number_of, digit_bytes, DigitsComeBack}
-use Rattle.common.proofs.Tests.{every-at, every-last, within-facts}
+use Rattle.common.proofs.Tests.{every-at, within-facts}
 
 pub length-digit_bytes : (s n : ℕ) → length (digit_bytes s n) ≡ s
 unfolding digit_bytes
@@ -55,14 +58,17 @@ digits_are (suc s) n =
     digits_append (digit_bytes s (n / 10)) ((0x30 + n % 10) ∷ []) (digits_are s (n / 10))
     (rw (is_digit_lem (0x30 + n % 10) (omega arith) (omega arith)))
 
--- the digits from index j on: one that is none stops, one that is one leaves the rest
-pub digits_stop : (xs : List ℕ) (j : ℕ) → j < length xs → is_digit (get_or xs j 0) ≡ false → are_digits (drop j xs) ≡ false
-unfolding are_digits every
-digits_stop xs j h e = rw (drop-cons xs j 0 h, e)
+every_of : (a b : Bool) → (a && b) ≡ every (a ∷ b ∷ [])
+unfolding every
+every_of true true = refl
+every_of true false = refl
+every_of false b = refl
 
-pub digits-go : (xs : List ℕ) (j : ℕ) → j < length xs → is_digit (get_or xs j 0) ≡ true → are_digits (drop (j + 1) xs) ≡ are_digits (drop j xs)
-unfolding are_digits every
-digits-go xs j h e = rw (add-one, drop-cons xs j 0 h, e) (every-last _)
+-- the library's test of each byte
+pub all-are_digits : (xs : List ℕ) → list_all is_ascii_digit xs ≡ are_digits xs
+unfolding are_digits within
+all-are_digits [] = refl
+all-are_digits (x ∷ xs) = ap₂ ◌&&◌ (every_of (leb 0x30 x) (leb x 0x39)) (all-are_digits xs) ∙ every_of (is_digit x) (are_digits xs)
 
 pub digit_at : (xs : List ℕ) (j : ℕ) → j < length xs → are_digits (drop j xs) ≡ true → Digit (get_or xs j 0) (drop (j + 1) xs)
 digit_at xs j h e = rw add-one (digit-first _ _ (rw (drop-cons xs j 0 h) at e))

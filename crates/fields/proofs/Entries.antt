@@ -1,6 +1,6 @@
 -- Laws of fields: what was put is read.
 -- Assumes nothing.
-use mathlib.Core.Path.{◌≡◌, refl, sym, ap, ◌∙◌}
+use mathlib.Core.Path.{◌≡◌, refl, sym, ◌∙◌}
 use mathlib.Core.List.{List, [], ◌∷◌, ◌++◌, append_assoc}
 use Prim.Native.Nat.{ℕ, zero, suc, ◌+◌, ◌≤◌, ◌<◌}
 use native.Mathlib.Nat.{le_refl, le_of_suc-le-suc, not-suc-le-zero}
@@ -64,9 +64,7 @@ bytes_in-before part e f t h =
 -- the left side is `borrow.Rule.Slice.PartMut.put_mid a k d v`: what a part that was lent, `&mut d[a..a + k]`, leaves
 pub put-part : (d : List ℕ) (a k : ℕ) (v : List ℕ) → length v ≡ k → take a d ++ (v ++ drop k (drop a d)) ≡ over d a v
 unfolding over
-put-part d a k v e =
-    sym (append_assoc (take a d) v (drop k (drop a d)))
-    ∙ ap (λ (z : List ℕ). take a d ++ v ++ z) (drop-drop k a d ∙ ap (λ (n : ℕ). drop (a + n) d) (sym e))
+put-part d a k v e = rw (← e, drop-drop) (sym (append_assoc (take a d) v (drop (a + length v) d)))
 
 -- ---- entries one after the other
 

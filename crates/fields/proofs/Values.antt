@@ -1,14 +1,17 @@
 -- Laws of named values: which one bytes are, and how it is written.
 -- Assumes nothing.
-use mathlib.Core.Path.{◌≡◌, refl, sym, ap, ap₂, ◌∙◌}
+use mathlib.Core.Path.{◌≡◌, refl, sym, ap, ap₂, ◌∙◌, subst}
 use mathlib.Core.Bool.{Bool, true, false}
 use mathlib.Core.List.{List, [], ◌∷◌}
-use Prim.Native.Nat.{ℕ, ◌+◌, ◌<◌}
+use Prim.Native.Nat.{ℕ, suc, ◌+◌, ◌<◌}
 use native.Mathlib.Numerals.{add-one}
-use borrow.Author.Tests.{eqb-true, eq-eqb, ne_eqb}
+use borrow.Author.Tests.{eqb-true, eq-eqb}
 use lib.Dec.{eqb}
 use lib.ListN.{length, get_or, drop}
 use lib.Seq.{drop-cons}
+use Rattle.std.specs.Str.{bytes_eq}
+use Rattle.std.proofs.lemmas.Bool.Decides.{same_from_decides}
+use Rattle.std.proofs.lemmas.Slice.Eq.{bytes_eq-Decides}
 use Rattle.common.specs.Tests.{every, some, pick}
 use Rattle.layout.specs.declared.InterleaveMode.{InterleaveMode}
 use Rattle.layout.specs.declared.InterleaveMode.TheVariants.{B, P, R, S}
@@ -20,7 +23,7 @@ use Rattle.fields.specs.declared.named.ImageCompression.{ImageCompression}
 use Rattle.fields.specs.declared.named.ImageCompression.TheVariants.{NC, NM}
 use Rattle.fields.specs.Named.{same_bytes, is_named, value_of, pvtypes, pvtype_text, pjusts, pjust_text}
 use Rattle.fields.specs.Named.{ics, ic_text, imodes, imode_text}
-use Rattle.common.proofs.Tests.{true_false, every-at, every-last, some-last}
+use Rattle.common.proofs.Tests.{true_false, every-at, some-last}
 
 -- ---- the same bytes
 
@@ -38,24 +41,11 @@ same_eq (x ∷ xs) (y ∷ ys) e =
     let a = every-at (eqb x y ∷ same_bytes xs ys ∷ []) e in
     ap₂ ◌∷◌ (eqb-true x y (a 0)) (same_eq xs ys (a 1))
 
-pub same_length : (xs ys : List ℕ) → (length xs ≡ length ys → ⊥) → same_bytes xs ys ≡ false
-same_length xs ys ne = go (same_bytes xs ys) refl
-  where
-    go : (b : Bool) → same_bytes xs ys ≡ b → b ≡ false
-    go true e = absurd (ne (ap length (same_eq xs ys e)))
-    go false e = refl
-
--- from index j on: a byte that differs stops, one that agrees leaves the rest
-pub same_stop : (xs ys : List ℕ) (j : ℕ) → j < length xs → j < length ys → (get_or xs j 0 ≡ get_or ys j 0 → ⊥)
-    → same_bytes (drop j xs) (drop j ys) ≡ false
-unfolding same_bytes every
-same_stop xs ys j h l ne = rw (drop-cons xs j 0 h, drop-cons ys j 0 l, ne_eqb (get_or xs j 0) (get_or ys j 0) ne)
-
-pub same-go : (xs ys : List ℕ) (j : ℕ) → j < length xs → j < length ys → get_or xs j 0 ≡ get_or ys j 0
-    → same_bytes (drop (j + 1) xs) (drop (j + 1) ys) ≡ same_bytes (drop j xs) (drop j ys)
-unfolding same_bytes every
-same-go xs ys j h l e =
-    rw (add-one, drop-cons xs j 0 h, drop-cons ys j 0 l, eq-eqb (get_or xs j 0) (get_or ys j 0) e) (every-last _)
+-- `==` on slices tells the same
+pub bytes_eq_same : (xs ys : List ℕ) → bytes_eq xs ys ≡ same_bytes xs ys
+bytes_eq_same xs ys =
+    same_from_decides (bytes_eq xs ys) (same_bytes xs ys) (bytes_eq-Decides xs ys)
+    (same_eq xs ys, λ e. subst (λ (zs : List ℕ). same_bytes xs zs ≡ true) e (same_refl xs))
 
 -- ---- values
 
@@ -85,6 +75,35 @@ module _ {A : Type 0} (written : A → List ℕ) (bytes : List ℕ) where
   -- so bytes that are named are those of the value found
   pub named-text : (v : A) (vs : List A) → is_named written (v ∷ vs) bytes ≡ true → bytes ≡ written (value_of written (v ∷ vs) v bytes)
   named-text v vs e = same_eq bytes (written (value_of written (v ∷ vs) v bytes)) (named_by v vs ∙ e)
+
+-- ---- a list of values gone through
+
+module _ {A : Type 0} (written : A → List ℕ) (bytes : List ℕ) where
+  -- what the values from an index on tell, where the value at it is written so, and where it is not
+  pub record Here (vs : List A) (v : A) : Type 0 where
+    pub is_there : is_named written vs bytes ≡ true
+    pub value : (other : A) → value_of written vs other bytes ≡ v
+
+  pub record Later (vs rest : List A) : Type 0 where
+    pub is_there : is_named written rest bytes ≡ is_named written vs bytes
+    pub value : (other : A) → value_of written rest other bytes ≡ value_of written vs other bytes
+
+  -- the loop's list is ws, and it looks at index k
+  pub named_here : {ws vs : List A} {k : ℕ} {v : A} → ws ≡ vs → k < length ws → v ≡ get_or ws k v
+      → bytes_eq bytes (written v) ≡ true → Here (drop k vs) v
+  unfolding value_of is_named pick some
+  named_here {ws = ws} {vs = vs} {k = k} {v = v} all h e t =
+      let d : drop k ws ≡ v ∷ drop (suc k) ws = drop-cons ws k v h ∙ ap (λ x. x ∷ drop (suc k) ws) (sym e) in
+      let s : same_bytes bytes (written v) ≡ true = sym (bytes_eq_same bytes (written v)) ∙ t in
+      rw (← all, d) (record { is_there = rw s; value = λ other. rw s })
+
+  pub named_later : {ws vs : List A} {k : ℕ} {v : A} → ws ≡ vs → k < length ws → v ≡ get_or ws k v
+      → bytes_eq bytes (written v) ≡ false → Later (drop k vs) (drop (k + 1) vs)
+  unfolding value_of is_named pick some
+  named_later {ws = ws} {vs = vs} {k = k} {v = v} all h e t =
+      let d : drop k ws ≡ v ∷ drop (suc k) ws = drop-cons ws k v h ∙ ap (λ x. x ∷ drop (suc k) ws) (sym e) in
+      let s : same_bytes bytes (written v) ≡ false = sym (bytes_eq_same bytes (written v)) ∙ t in
+      rw (← all, add-one, d) (record { is_there = rw s (some-last _); value = λ other. rw s })
 
 -- ---- each value comes back from its text, which has its field's length
 

@@ -4,13 +4,13 @@
 ghost use Rattle.std.specs.Prelude.{◌≡◌, true, ◌+◌, ◌≤◌, length};
 ghost use Rattle.fields.specs.Fields.{bytes_in, is_number, number_in, put, number, text as text_entry};
 
-use bits::bytes::copy;
 use digits::{are_digits, number_of, put_digits};
 
 pub mod named;
 pub mod sides;
 
-// A field: its first byte in its part, and its bytes.
+// A field: its first byte in its part, and its bytes. That a part holds it stands in contracts: the fields are
+// constants, and parts are lent.
 #[derive(Clone, Copy)]
 pub struct Field {
     pub at: usize,
@@ -47,13 +47,13 @@ impl Field {
     pub const NBPP: Field = Field { at: 17, size: 2 };
 
     // The field's bytes.
+    #[tactic(auto, unfolding(crate::specs::Fields::bytes_in))]
     pub fn bytes_in(self, part: &[u8]) -> &[u8]
         requires { self.at + self.size ≤ length part.now }
-        ensures { result.now ≡ bytes_in part.now self }
+        ensures same { result.now ≡ bytes_in part.now self }
+        ensures long { length result.now ≡ self.size }
     {
-        let at = self.at;
-        let end = at + self.size;
-        &part[at..end]
+        &part[self.at..self.at + self.size]
     }
 
     // Are they all digits?
@@ -78,9 +78,7 @@ impl Field {
         requires { self.at + self.size ≤ length part.old }
         ensures { part.new ≡ put part.old (number self value) }
     {
-        let at = self.at;
-        let end = at + self.size;
-        put_digits(&mut part[at..end], value as u64);
+        put_digits(&mut part[self.at..self.at + self.size], u64::from(value));
     }
 
     // Puts the field's text.
@@ -88,6 +86,6 @@ impl Field {
         requires { self.at + length text.now ≤ length part.old }
         ensures { part.new ≡ put part.old (text_entry self text.now) }
     {
-        copy(text, 0, text.len(), part, self.at);
+        part[self.at..self.at + text.len()].copy_from_slice(text);
     }
 }

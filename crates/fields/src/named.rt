@@ -1,16 +1,58 @@
 // Named values, as they stand in their fields.
-ghost use Rattle.std.specs.Prelude.{◌≡◌};
-ghost use Rattle.layout.specs.declared.InterleaveMode.TheVariants.{B};
-ghost use Rattle.fields.specs.declared.named.PixelValueType.TheVariants.{UnsignedInt};
-ghost use Rattle.fields.specs.declared.named.PixelJustification.TheVariants.{Right};
-ghost use Rattle.fields.specs.declared.named.ImageCompression.TheVariants.{NC};
-ghost use Rattle.fields.specs.Named.{same_bytes, is_named, value_of};
+ghost use Rattle.std.specs.Prelude.{◌≡◌, ℕ, ◌<◌, ◌^◌, List, is_some, unwrap_or};
+ghost use Rattle.std.proofs.Common.{rules};
+ghost use Rattle.fields.specs.Named.{is_named, value_of};
 ghost use Rattle.fields.specs.Named.{pvtypes, pvtype_text, pjusts, pjust_text, ics, ic_text, imodes, imode_text};
 
 use layout::InterleaveMode;
 
+// A type whose values are written as texts of N bytes: the text of each, and the values.
+pub trait Named<const N: usize>: Copy + 'static {
+    ghost text: { Self → List ℕ };
+
+    ghost values: { List Self };
+
+    // How it is written.
+    fn to_bytes(self) -> [u8; N]
+        ensures { result ≡ text self };
+
+    // All values.
+    fn values() -> &'static [Self]
+        ensures { result.now ≡ values };
+
+    // Generic code asks this of an array.
+    ghost short: { N < 2 ^ 63 };
+
+    // The value that is written so, if there is one.
+    final fn named(bytes: &[u8]) -> Option<Self>
+        ensures is_there { is_some result ≡ is_named text values bytes.now }
+        ensures value { (other : Self) → unwrap_or result other ≡ value_of text values other bytes.now }
+    {
+        for value in Self::values() {
+            if bytes == value.to_bytes().as_slice() {
+                return Some(*value);
+            }
+        }
+        None
+    }
+
+    // The value that is written so; `other` where none is.
+    final fn from_bytes(bytes: &[u8], other: Self) -> Self
+        ensures { result ≡ value_of text values other bytes.now }
+    {
+        Self::named(bytes).unwrap_or(other)
+    }
+
+    // Is a value written so?
+    final fn is_named(bytes: &[u8]) -> bool
+        ensures { result ≡ is_named text values bytes.now }
+    {
+        Self::named(bytes).is_some()
+    }
+}
+
 // PVTYPE: what a sample's bits are.
-#[derive(Clone, Copy)]
+#[derive(Clone, Copy, Debug, PartialEq, Eq)]
 pub enum PixelValueType {
     UnsignedInt,
     SignedInt,
@@ -19,62 +61,14 @@ pub enum PixelValueType {
     BiLevel,
 }
 
-// PJUST: at which end of a sample its ABPP bits stand.
-#[derive(Clone, Copy)]
-pub enum PixelJustification {
-    Right,
-    Left,
-}
+impl Named<3> for PixelValueType {
+    ghost text = { pvtype_text };
 
-// IC: without compression, as a whole or masked.
-#[derive(Clone, Copy)]
-pub enum ImageCompression {
-    NC,
-    NM,
-}
+    ghost values = { pvtypes };
 
-// Are these the same bytes?
-fn same_bytes(a: &[u8], b: &[u8]) -> bool
-    ensures { result ≡ same_bytes a.now b.now }
-{
-    if a.len() != b.len() {
-        return false;
-    }
-    for j in 0..a.len() {
-        if a[j] != b[j] {
-            return false;
-        }
-    }
-    true
-}
+    ghost short = { Prim.search rules };
 
-impl PixelValueType {
-    // The value that is written so; `UnsignedInt` where none is.
-    pub fn from_bytes(bytes: &[u8]) -> Self
-        ensures { result ≡ value_of pvtype_text pvtypes UnsignedInt bytes.now }
-    {
-        if same_bytes(bytes, b"INT") {
-            return Self::UnsignedInt;
-        }
-        if same_bytes(bytes, b"SI ") {
-            return Self::SignedInt;
-        }
-        if same_bytes(bytes, b"R  ") {
-            return Self::Real;
-        }
-        if same_bytes(bytes, b"C  ") {
-            return Self::Complex;
-        }
-        if same_bytes(bytes, b"B  ") {
-            return Self::BiLevel;
-        }
-        Self::UnsignedInt
-    }
-
-    // How it is written.
-    pub fn to_bytes(self) -> [u8; 3]
-        ensures { result ≡ pvtype_text self }
-    {
+    fn to_bytes(self) -> [u8; 3] {
         match self {
             Self::UnsignedInt => *b"INT",
             Self::SignedInt => *b"SI ",
@@ -84,116 +78,86 @@ impl PixelValueType {
         }
     }
 
-    // Is a value written so?
-    pub fn is_named(bytes: &[u8]) -> bool
-        ensures { result ≡ is_named pvtype_text pvtypes bytes.now }
-    {
-        let text = Self::from_bytes(bytes).to_bytes();
-        same_bytes(bytes, &text)
+    fn values() -> &'static [Self] {
+        &[
+            Self::UnsignedInt,
+            Self::SignedInt,
+            Self::Real,
+            Self::Complex,
+            Self::BiLevel,
+        ]
     }
 }
 
-impl PixelJustification {
-    // The value that is written so; `Right` where none is.
-    pub fn from_bytes(bytes: &[u8]) -> Self
-        ensures { result ≡ value_of pjust_text pjusts Right bytes.now }
-    {
-        if same_bytes(bytes, b"R") {
-            return Self::Right;
-        }
-        if same_bytes(bytes, b"L") {
-            return Self::Left;
-        }
-        Self::Right
-    }
+// PJUST: at which end of a sample its ABPP bits stand.
+#[derive(Clone, Copy, Debug, PartialEq, Eq)]
+pub enum PixelJustification {
+    Right,
+    Left,
+}
 
-    // How it is written.
-    pub fn to_bytes(self) -> [u8; 1]
-        ensures { result ≡ pjust_text self }
-    {
+impl Named<1> for PixelJustification {
+    ghost text = { pjust_text };
+
+    ghost values = { pjusts };
+
+    ghost short = { Prim.search rules };
+
+    fn to_bytes(self) -> [u8; 1] {
         match self {
             Self::Right => *b"R",
             Self::Left => *b"L",
         }
     }
 
-    // Is a value written so?
-    pub fn is_named(bytes: &[u8]) -> bool
-        ensures { result ≡ is_named pjust_text pjusts bytes.now }
-    {
-        let text = Self::from_bytes(bytes).to_bytes();
-        same_bytes(bytes, &text)
+    fn values() -> &'static [Self] {
+        &[Self::Right, Self::Left]
     }
 }
 
-impl ImageCompression {
-    // The value that is written so; `NC` where none is.
-    pub fn from_bytes(bytes: &[u8]) -> Self
-        ensures { result ≡ value_of ic_text ics NC bytes.now }
-    {
-        if same_bytes(bytes, b"NC") {
-            return Self::NC;
-        }
-        if same_bytes(bytes, b"NM") {
-            return Self::NM;
-        }
-        Self::NC
-    }
+// IC: without compression, as a whole or masked.
+#[derive(Clone, Copy, Debug, PartialEq, Eq)]
+pub enum ImageCompression {
+    NC,
+    NM,
+}
 
-    // How it is written.
-    pub fn to_bytes(self) -> [u8; 2]
-        ensures { result ≡ ic_text self }
-    {
+impl Named<2> for ImageCompression {
+    ghost text = { ic_text };
+
+    ghost values = { ics };
+
+    ghost short = { Prim.search rules };
+
+    fn to_bytes(self) -> [u8; 2] {
         match self {
             Self::NC => *b"NC",
             Self::NM => *b"NM",
         }
     }
 
-    // Is a value written so?
-    pub fn is_named(bytes: &[u8]) -> bool
-        ensures { result ≡ is_named ic_text ics bytes.now }
-    {
-        let text = Self::from_bytes(bytes).to_bytes();
-        same_bytes(bytes, &text)
+    fn values() -> &'static [Self] {
+        &[Self::NC, Self::NM]
     }
 }
 
-// The mode that is written so; `B` where none is.
-pub fn mode_from_bytes(bytes: &[u8]) -> InterleaveMode
-    ensures { result ≡ value_of imode_text imodes B bytes.now }
-{
-    if same_bytes(bytes, b"B") {
-        return InterleaveMode::B;
-    }
-    if same_bytes(bytes, b"P") {
-        return InterleaveMode::P;
-    }
-    if same_bytes(bytes, b"R") {
-        return InterleaveMode::R;
-    }
-    if same_bytes(bytes, b"S") {
-        return InterleaveMode::S;
-    }
-    InterleaveMode::B
-}
+impl Named<1> for InterleaveMode {
+    ghost text = { imode_text };
 
-// How a mode is written.
-pub fn mode_to_bytes(mode: InterleaveMode) -> [u8; 1]
-    ensures { result ≡ imode_text mode }
-{
-    match mode {
-        InterleaveMode::B => *b"B",
-        InterleaveMode::P => *b"P",
-        InterleaveMode::R => *b"R",
-        InterleaveMode::S => *b"S",
-    }
-}
+    ghost values = { imodes };
 
-// Is a mode written so?
-pub fn mode_is_named(bytes: &[u8]) -> bool
-    ensures { result ≡ is_named imode_text imodes bytes.now }
-{
-    let text = mode_to_bytes(mode_from_bytes(bytes));
-    same_bytes(bytes, &text)
+    ghost short = { Prim.search rules };
+
+    fn to_bytes(self) -> [u8; 1] {
+        match self {
+            Self::B => *b"B",
+            Self::P => *b"P",
+            Self::R => *b"R",
+            Self::S => *b"S",
+        }
+    }
+
+    fn values() -> &'static [Self] {
+        &[Self::B, Self::P, Self::R, Self::S]
+    }
 }

@@ -4,8 +4,7 @@
 use Rattle.std.specs.Prelude.{ℕ, List, [], ◌∷◌, ◌++◌, replicate}
 use Rattle.grid.specs.declared.EdgeRule.TheVariants.{Tight}
 use Rattle.grid.specs.declared.Grid.{Grid}
-use Rattle.subheader.specs.declared.ReadSubheader.{ReadSubheader}
-use Rattle.subheader.specs.Subheader.{PartsOut, read_subheader, write_subheader}
+use Rattle.subheader.specs.Subheader.{PartsOut, ReadSubheader, read_subheader, write_subheader}
 
 -- 00000003 00009000 INT MONO VIS 08 R
 abbrev pub first_part : List ℕ

@@ -2,51 +2,79 @@
 -- Assumes nothing.
 use Prim.Native.Nat.{ℕ, zero, suc, ◌+◌, ◌-◌, ◌*◌, ◌/◌, ◌%◌, ◌^◌, max, ◌≤◌, ◌<◌}
 use mathlib.Core.Path.{◌≡◌, refl, sym, ap, ap₂, ◌∙◌, subst, subst₂}
-use mathlib.Core.Bool.{true}
-use mathlib.Core.List.{List}
+use mathlib.Core.Bool.{Bool, true, false, ◌&&◌}
+use mathlib.Core.List.{List, [], ◌∷◌}
 use native.Mathlib.Decide.{ℕ_discrete, dec_lt}
-use native.Mathlib.Nat.{mul_assoc, add-mul, mul-le-mul_right, mod-lt, div-mul-le_self, div-add-mod', div-lt_iff_lt-mul, zero-add, add-zero}
-use native.Mathlib.Numerals.{add-one}
+use native.Mathlib.Nat.{zero-mul, suc-mul, div-eq_of_eq-mul_left, le-div_iff_mul-le, mul_assoc, add-mul, mul-le-mul_right, mod-lt, div-mul-le_self, div-add-mod', zero-add, add-zero}
 use native.Mathlib.Omega.{arith}
 use borrow.Author.Tests.{ltb-true, lt-ltb}
-use lib.Arith.{digits_lt}
+use denote.Param.Members.{Mut}
+use denote.Ref.{Bor}
+use lib.Arith.{digits_div, digits_lt}
 use lib.Dec.{ltb}
-use lib.ListN.{length, get_or, set, replicate, get_or-replicate}
+use lib.ListN.{length, get_or, take, drop, length-take, length-drop}
 use lib.Pow.{pow-add}
-use lib.Seq.{get_or-set_same, get_or-set_other}
+use lib.Seq.{get_or-take, get_or-drop, drop-drop}
+use Rattle.std.specs.Bool.{MatchBool, IsTrue}
+use Rattle.std.specs.Fn.{Called}
+use Rattle.std.specs.Iterator.Runs.{Run, IsChunksExactRun, AllItemsGive, AnyItemGives, CallKeepsClosure}
+use Rattle.std.specs.List.{IsSubsliceAt}
+use Rattle.std.specs.Simd.{first_chunks}
+use Rattle.std.specs.Option.{IfSome, IsSomeAnd, option_map}
+use Rattle.std.proofs.Common.{Option, Some, None}
 use Rattle.common.specs.Tests.{all_below}
-use Rattle.common.proofs.Tests.{both_yes, below_at, all-below, below_ext}
+use Rattle.common.proofs.Tests.{both_yes, below_at, all-below, below_fails, below_ext, below-and, below-nested, below-swap}
 use Rattle.bits.specs.Bits.{be_at, bits_at, Bytes}
-use Rattle.fits.specs.Internal.Rows.{greatest_of_four}
+use Rattle.fits.specs.Internal.Rows.{first_bytes_below, greatest_of_four}
 use Rattle.bits.proofs.Bits.{bits_at_lt, bits_at-add, within}
 use Rattle.bits.proofs.BigEndian.{bits_at-bytes, be_at_lt}
 
--- ---- a row raised by the bytes of four others
+-- ---- samples one after another
 
--- the first j places are raised
-pub record Raised (tops₀ dat : List ℕ) (at : ℕ) (tops : List ℕ) (j : ℕ) : Type 0 where
-  pub raised : (i : ℕ) → i < j → get_or tops i 0 ≡ max (get_or tops₀ i 0) (greatest_of_four dat at i)
-  pub rest : (i : ℕ) → j ≤ i → get_or tops i 0 ≡ get_or tops₀ i 0
+-- what `chunks_exact(size).all(..)` answers, where the closure asks a sample's first byte
+module _ {S F : Type 0} {steps : S → Option (Bor (List ℕ)) → S → Type 0} (p : Run steps) (g : Mut F (Bor (List ℕ) × Unit {0}) Bool) (f : F) (xs : List ℕ) (size limit : ℕ) where
+  abbrev Asks : Type 0
+  Asks = (x : Bor (List ℕ)) (b : Bool) (q : F) → Called g f (x, tt) b q → (q ≡ f) × (b ≡ ltb (get_or x.now 0 0) limit)
 
-pub raised-none : (tops dat : List ℕ) (at : ℕ) → Raised tops dat at tops 0
-raised-none tops dat at = record { raised = λ i h. absurd (omega arith); rest = λ i h. refl }
+  keeps : Asks → CallKeepsClosure g f
+  keeps asks a b q called = (asks a.0 b q called).0
 
-pub raised-turn : (tops₀ dat : List ℕ) (at : ℕ) (tops : List ℕ) (j v : ℕ) → j < length tops → Raised tops₀ dat at tops j
-    → v ≡ max (get_or tops j 0) (greatest_of_four dat at j) → Raised tops₀ dat at (set tops j v) (j + 1)
-raised-turn tops₀ dat at tops j v h r e =
-    record {
-      raised = λ i l. go i l (ℕ_discrete i j);
-      rest = λ i l. get_or-set_other tops j i v 0 (λ q. omega arith) ∙ r.rest i (omega arith);
-    }
-  where
-    here : get_or (set tops j v) j 0 ≡ max (get_or tops₀ j 0) (greatest_of_four dat at j)
-    here = get_or-set_same tops j v 0 h ∙ e ∙ ap (λ (x : ℕ). max x (greatest_of_four dat at j)) (r.rest j (omega arith))
+  some : {A : Type 0} (o : Option A) (y : A) (P : A → Type 0) → option_map (λ z. z) o ≡ Some y → IfSome o P → IsSomeAnd o P
+  some None y P e h = cc
+  some (Some x) y P e h = h
 
-    go : (i : ℕ) → i < j + 1 → Dec (i ≡ j) → get_or (set tops j v) i 0 ≡ max (get_or tops₀ i 0) (greatest_of_four dat at i)
-    go i l (yes q) = subst (λ (k : ℕ). get_or (set tops j v) k 0 ≡ max (get_or tops₀ k 0) (greatest_of_four dat at k)) (sym q) here
-    go i l (no q) = get_or-set_other tops j i v 0 q ∙ r.raised i (omega arith)
+  any : {A : Type 0} (l : List A) → 0 < length l → A
+  any [] h = absurd (omega arith)
+  any (x ∷ l) h = x
 
--- ---- the greatest byte at each place of so many rows
+  -- sample k is there
+  there : (P : Bor (List ℕ) → Type 0) (k : ℕ) → k < p.len → IfSome (p.at k) P → IsSomeAnd (p.at k) P
+  there P k h = let d = any p.items (omega (arith, p.long)) in some (p.at k) _ P (p.reads k d h)
+
+  -- what the closure answered at sample k
+  told : (k : ℕ) (b : Bool) (o : Option (Bor (List ℕ))) → 0 < size → Asks
+      → IfSome o (λ x. (length x.now ≡ size) × (k * size + size ≤ length xs) × IsSubsliceAt size xs (k * size) x.now)
+      → IsSomeAnd o (λ x. Called g f (x, tt) b f) → b ≡ ltb (get_or xs (k * size) 0) limit
+  told k b None h asks is said = absurd said
+  told k b (Some x) h asks is said =
+      (asks x b f said).1 ∙ ap (λ (y : ℕ). ltb y limit) (is.2.2 0 0 h ∙ ap (λ (i : ℕ). get_or xs i 0) (add-zero (k * size)))
+
+  answer : (r : Bool) → 0 < size → IsChunksExactRun p size xs → MatchBool r (IsTrue p.whole × AllItemsGive p g f true) (AnyItemGives p g f false) → Asks
+      → r ≡ first_bytes_below xs size limit
+  unfolding first_bytes_below
+  answer true h run all asks =
+      sym (all-below (length xs / size) _ (λ k l.
+      sym (told k true (p.at k) h asks (run.2 k) (there _ k (rw (run.1 all.0) l) (all.1 (keeps asks) k)))))
+  answer false h run fails asks =
+      let k = fails (keeps asks) in
+      let l : p.len ≤ length xs / size = (le-div_iff_mul-le h).1 run.0 in
+      sym (below_fails (length xs / size) _ k.0 (omega (arith, k.1)) (sym (told k.0 false (p.at k.0) h asks (run.2 k.0) k.2)))
+
+  pub chunks_below : (r : Bool) {n : ℕ} {ys : List ℕ} → 0 < size → n ≡ size → ys ≡ xs → (0 < n → IsChunksExactRun p n ys)
+      → MatchBool r (IsTrue p.whole × AllItemsGive p g f true) (AnyItemGives p g f false) → Asks → r ≡ first_bytes_below xs size limit
+  chunks_below r h e d run said asks = answer r h (subst₂ (IsChunksExactRun p) e d (run (rw e h))) said asks
+
+-- ---- the greatest byte at each place of four rows
 
 -- the greatest of f 0 to f (n - 1)
 unfoldable pub greatest : (ℕ → ℕ) → ℕ → ℕ
@@ -67,119 +95,117 @@ lt_greatest f (suc n) limit h k l = go (ℕ_discrete k n) (lt_greatest f n limit
     go (yes q) r m = subst (λ (i : ℕ). f i < limit) (sym q) m
     go (no q) r m = r (omega arith)
 
--- each place of `tops` has the greatest byte there of the first n rows of dat
-pub record TopsOf (dat tops : List ℕ) (n : ℕ) : Type 0 where
-  pub top : (j : ℕ) → j < 128 → get_or tops j 0 ≡ greatest (λ q. get_or dat (q * 128 + j) 0) n
+-- it is below the limit exactly when all are
+greatest_tells : (f : ℕ → ℕ) (n limit : ℕ) → 0 < limit → ltb (greatest f n) limit ≡ all_below n (λ q. ltb (f q) limit)
+greatest_tells f n limit h =
+    both_yes _ _
+    (λ lt. all-below n _ (λ k l. lt-ltb _ _ (lt_greatest f n limit (ltb-true _ _ lt) k l)))
+    (λ all. lt-ltb _ _ (greatest_lt f n limit h (λ k l. ltb-true _ _ (below_at n _ all k l))))
 
-max_assoc : (a b c : ℕ) → max (max a b) c ≡ max a (max b c)
-max_assoc a b c = omega arith
+four_is : (xs : List ℕ) (j : ℕ) → greatest_of_four xs j ≡ greatest (λ r. get_or xs (r * 128 + j) 0) 4
+unfolding greatest_of_four greatest
+four_is xs j =
+    let e : get_or xs (0 + j) 0 ≡ get_or xs j 0 = ap (λ (i : ℕ). get_or xs i 0) (zero-add j) in
+    omega arith
 
-next : (f : ℕ → ℕ) (n m : ℕ) → m ≡ n + 1 → greatest f m ≡ max (greatest f n) (f n)
-unfolding greatest
-next f n m e = ap (greatest f) (e ∙ add-one n)
+four_tells : (xs : List ℕ) (j limit : ℕ) → 0 < limit → ltb (greatest_of_four xs j) limit ≡ all_below 4 (λ r. ltb (get_or xs (r * 128 + j) 0) limit)
+four_tells xs j limit h = ap (λ (x : ℕ). ltb x limit) (four_is xs j) ∙ greatest_tells (λ r. get_or xs (r * 128 + j) 0) 4 limit h
 
-four-more : (f : ℕ → ℕ) (n : ℕ) → greatest f (n + 4) ≡ max (greatest f n) (max (max (f n) (f (n + 1))) (max (f (n + 2)) (f (n + 3))))
-four-more f n =
-    next f (n + 3) (n + 4) (omega arith)
-    ∙ ap (λ (x : ℕ). max x (f (n + 3))) (next f (n + 2) (n + 3) (omega arith))
-    ∙ max_assoc (greatest f (n + 2)) (f (n + 2)) (f (n + 3))
-    ∙ ap (λ (x : ℕ). max x (max (f (n + 2)) (f (n + 3))))
-    (next f (n + 1) (n + 2) (omega arith) ∙ ap (λ (x : ℕ). max x (f (n + 1))) (next f n (n + 1) refl) ∙ max_assoc (greatest f n) (f n) (f (n + 1)))
-    ∙ max_assoc (greatest f n) (max (f n) (f (n + 1))) (max (f (n + 2)) (f (n + 3)))
+-- ---- rows of whole samples
 
-pub tops_turn : (dat tops tops' : List ℕ) (n : ℕ) → TopsOf dat tops (n * 4)
-    → ((j : ℕ) → j < 128 → get_or tops' j 0 ≡ max (get_or tops j 0) (greatest_of_four dat (n * 512) j)) → TopsOf dat tops' ((n + 1) * 4)
-unfolding greatest_of_four
-tops_turn dat tops tops' n t r =
-    record { top = λ j h. r j h ∙ ap₂ max (t.top j h) (four j) ∙ sym (more j) }
-  where
-    row : (j : ℕ) → ℕ → ℕ
-    row j q = get_or dat (q * 128 + j) 0
+pub samples_of : (xs : List ℕ) (size limit : ℕ) {n : ℕ} → length xs / size ≡ n → first_bytes_below xs size limit ≡ all_below n (λ k. ltb (get_or xs (k * size) 0) limit)
+unfolding first_bytes_below
+samples_of xs size limit e = ap (λ (n : ℕ). all_below n (λ k. ltb (get_or xs (k * size) 0) limit)) e
 
-    four : (j : ℕ) → greatest_of_four dat (n * 512) j ≡ max (max (row j (n * 4)) (row j (n * 4 + 1))) (max (row j (n * 4 + 2)) (row j (n * 4 + 3)))
-    four j =
-        ap₂ max (ap₂ max (at (omega arith)) (at (omega arith))) (ap₂ max (at (omega arith)) (at (omega arith)))
-      where
-        at : {a b : ℕ} → a ≡ b → get_or dat a 0 ≡ get_or dat b 0
-        at e = ap (λ (x : ℕ). get_or dat x 0) e
+-- n bytes hold n / size samples, with none cut
+whole : (n size : ℕ) → n % size ≡ 0 → n / size * size ≡ n
+whole n size e = omega (arith, div-add-mod' n size)
 
-    more : (j : ℕ) → greatest (row j) ((n + 1) * 4) ≡ max (greatest (row j) (n * 4)) (max (max (row j (n * 4)) (row j (n * 4 + 1))) (max (row j (n * 4 + 2)) (row j (n * 4 + 3))))
-    more j = ap (greatest (row j)) (let e : (n + 1) * 4 ≡ n * 4 + 4 = omega arith in e) ∙ four-more (row j) (n * 4)
-
-pub tops_none : (dat tops : List ℕ) → tops ≡ replicate 128 0 → TopsOf dat tops 0
-unfolding greatest
-tops_none dat tops e = record { top = λ j h. ap (λ (l : List ℕ). get_or l j 0) e ∙ get_or-replicate 128 j 0 0 h }
-
--- rows of `in_row` samples: the first byte of sample i of row q is that of sample q * in_row + i
+-- the first byte of sample i of row q, where a row of n bytes holds in_row samples
 first_byte_lem : (size in_row q i n : ℕ) → in_row * size ≡ n → (q * in_row + i) * size ≡ q * n + i * size
 first_byte_lem size in_row q i n e = add-mul (q * in_row) i size ∙ ap (λ (x : ℕ). x + i * size) (mul_assoc q in_row size ∙ ap (λ (x : ℕ). q * x) e)
 
-pub size-pos : (size in_row : ℕ) → in_row * size ≡ 128 → 0 < size
-size-pos zero in_row e = absurd (omega arith)
-size-pos (suc size) in_row e = omega arith
+-- the samples after the first k
+after : (n size k : ℕ) → 0 < size → k ≤ n / size → (n - k * size) / size ≡ n / size - k
+after n size k pos l =
+    let e : (n / size - k) * size + k * size ≡ n / size * size
+    = sym (add-mul (n / size - k) k size) ∙ ap (λ (x : ℕ). x * size) (let q : n / size - k + k ≡ n / size = omega arith in q) in
+    let f : n - k * size ≡ (n / size - k) * size + n % size = omega (arith, e, div-add-mod' n size) in
+    ap (λ (x : ℕ). x / size) f ∙ digits_div (n / size - k) (mod-lt n pos)
 
-place_lt : (size in_row i : ℕ) → in_row * size ≡ 128 → i < in_row → i * size < 128
-place_lt zero in_row i e h = absurd (omega arith)
-place_lt (suc size) in_row i e h = omega (arith, within i in_row (suc size) h)
+get_or-first_chunks : {X : Type 0} (n k q : ℕ) (xs : List X) → q < k → get_or (first_chunks n k xs) q [] ≡ take n (drop (q * n) xs)
+get_or-first_chunks n zero q xs h = absurd (omega arith)
+get_or-first_chunks n (suc k) zero xs h = ap (λ (i : ℕ). take n (drop i xs)) (sym (zero-mul n))
+get_or-first_chunks n (suc k) (suc q) xs h =
+    get_or-first_chunks n k q (drop n xs) (omega arith) ∙ ap (take n) (drop-drop (q * n) n xs ∙ ap (λ (i : ℕ). drop i xs) (omega (arith, suc-mul q n)))
 
--- the greatest bytes at the samples' places are below the limit exactly when the samples' first bytes are
-pub rows_same : (dat tops : List ℕ) (size in_row rows limit : ℕ) → in_row * size ≡ 128 → 0 < limit → TopsOf dat tops rows
-    → all_below in_row (λ i. ltb (get_or tops (0 + i * size) 0) limit) ≡ all_below (rows * in_row) (λ k. ltb (get_or dat (k * size) 0) limit)
-rows_same dat tops size in_row rows limit e h t =
-    both_yes _ _
-    (λ all. all-below (rows * in_row) _ (λ k l. lt-ltb _ _ (sample all k l)))
-    (λ all. all-below in_row _ (λ i l. lt-ltb _ _ (place all i l)))
-  where
-    tops_at : (i : ℕ) → i < in_row → get_or tops (0 + i * size) 0 ≡ greatest (λ q. get_or dat (q * 128 + i * size) 0) rows
-    tops_at i l = ap (λ (x : ℕ). get_or tops x 0) (zero-add (i * size)) ∙ t.top (i * size) (place_lt size in_row i e l)
+module _ (size limit : ℕ) (pos : 0 < size) (cut : 128 % size ≡ 0) (some : 0 < limit) where
+  -- four rows of samples
+  in_four : 4 * (128 / size) * size ≡ 512
+  in_four = mul_assoc 4 (128 / size) size ∙ ap (λ (x : ℕ). 4 * x) (whole 128 size cut)
 
-    sample : all_below in_row (λ i. ltb (get_or tops (0 + i * size) 0) limit) ≡ true → (k : ℕ) → k < rows * in_row → get_or dat (k * size) 0 < limit
-    sample all k l =
-        let pos : 0 < in_row = positive in_row l in
-        let q : ℕ = k / in_row in let i : ℕ = k % in_row in
-        let m : i < in_row = mod-lt k pos in
-        subst (λ (x : ℕ). get_or dat x 0 < limit)
-        (sym (first_byte_lem size in_row q i 128 e) ∙ ap (λ (x : ℕ). x * size) (div-add-mod' k in_row))
-        (lt_greatest (λ q. get_or dat (q * 128 + i * size) 0) rows limit
-        (subst (λ (x : ℕ). x < limit) (tops_at i m) (ltb-true _ _ (below_at in_row _ all i m))) q ((div-lt_iff_lt-mul pos).1 l))
-      where
-        positive : (n : ℕ) → k < rows * n → 0 < n
-        positive zero l = absurd (omega arith)
-        positive (suc n) l = omega arith
+  four_rows : (xs : List ℕ) → length xs ≡ 512 → first_bytes_below xs size limit ≡ all_below (128 / size) (λ i. ltb (greatest_of_four xs (i * size)) limit)
+  four_rows xs l =
+      samples_of xs size limit (ap (λ (n : ℕ). n / size) l ∙ div-eq_of_eq-mul_left pos (sym in_four))
+      ∙ sym (below-nested 4 (128 / size) (λ k. ltb (get_or xs (k * size) 0) limit))
+      ∙ sym (below-swap (128 / size) 4 (λ i r. ltb (get_or xs ((r * (128 / size) + i) * size) 0) limit))
+      ∙ below_ext (128 / size) _ _ (λ i h.
+      below_ext 4 _ _ (λ r k. ap (λ (x : ℕ). ltb (get_or xs x 0) limit) (first_byte_lem size (128 / size) r i 128 (whole 128 size cut)))
+      ∙ sym (four_tells xs (i * size) limit some))
 
-    place : all_below (rows * in_row) (λ k. ltb (get_or dat (k * size) 0) limit) ≡ true → (i : ℕ) → i < in_row → get_or tops (0 + i * size) 0 < limit
-    place all i l =
-        subst (λ (x : ℕ). x < limit) (sym (tops_at i l))
-        (greatest_lt _ rows limit h (λ q m.
-        subst (λ (x : ℕ). get_or dat x 0 < limit) (first_byte_lem size in_row q i 128 e)
-        (ltb-true _ _ (below_at (rows * in_row) _ all (q * in_row + i) (digits_lt m l)))))
+  -- each place of `tops` has the greatest byte there of all rows
+  pub tops_tell : (fours : List (List ℕ)) (tops : List ℕ) → length tops ≡ 128 → ((q : ℕ) → q < length fours → length (get_or fours q []) ≡ 512)
+      → ((j : ℕ) → j < 128 → get_or tops j 0 ≡ greatest (λ q. greatest_of_four (get_or fours q []) j) (length fours))
+      → first_bytes_below tops size limit ≡ all_below (length fours) (λ q. first_bytes_below (get_or fours q []) size limit)
+  tops_tell fours tops l ls t =
+      samples_of tops size limit (ap (λ (n : ℕ). n / size) l)
+      ∙ below_ext (128 / size) _ _ (λ i h.
+      ap (λ (x : ℕ). ltb x limit) (t (i * size) (omega (arith, within i (128 / size) size h, whole 128 size cut)))
+      ∙ greatest_tells (λ q. greatest_of_four (get_or fours q []) (i * size)) (length fours) limit some)
+      ∙ below-swap (128 / size) (length fours) (λ i q. ltb (greatest_of_four (get_or fours q []) (i * size)) limit)
+      ∙ below_ext (length fours) _ _ (λ q h. sym (four_rows (get_or fours q []) (ls q h)))
 
--- ---- samples in fours of rows, and those after them
+  -- what `as_chunks` cuts off, and the rest
+  chunks_tell : (xs : List ℕ) → (all_below (length xs / 512) (λ q. first_bytes_below (get_or (first_chunks 512 (length xs / 512) xs) q []) size limit)
+      && first_bytes_below (drop (length xs / 512 * 512) xs) size limit) ≡ first_bytes_below xs size limit
+  chunks_tell xs =
+      ap₂ ◌&&◌
+      (below_ext m _ _ (λ q h. chunk q h) ∙ below-nested m (4 * (128 / size)) (λ k. ltb (get_or xs (k * size) 0) limit))
+      rest
+      ∙ below-and (m * (4 * (128 / size))) (length xs / size) (λ k. ltb (get_or xs (k * size) 0) limit) before
+      ∙ sym (samples_of xs size limit refl)
+    where
+      m : ℕ
+      m = length xs / 512
 
--- of `count` samples those in whole fours, which hold `in_four` each, and the rest, are inside n bytes
-pub record FoursIn (n size in_four count fours : ℕ) : Type 0 where
-  pub before : fours * in_four ≤ count
-  pub bytes : fours * 512 ≤ n
-  pub rest : fours * 512 + (count - fours * in_four) * size ≤ n
+      fill : m * (4 * (128 / size)) * size ≡ m * 512
+      fill = mul_assoc m (4 * (128 / size)) size ∙ ap (λ (x : ℕ). m * x) in_four
 
-pub fours_in : (n size in_four count : ℕ) → in_four * size ≡ 512 → count * size ≤ n → FoursIn n size in_four count (count / in_four)
-fours_in n size in_four count e h =
-    let a : ℕ = count / in_four * in_four in
-    let l : a ≤ count = div-mul-le_self count in_four in
-    let r : a * size ≡ count / in_four * 512 = mul_assoc (count / in_four) in_four size ∙ ap (λ (x : ℕ). count / in_four * x) e in
-    let whole : a * size + (count - a) * size ≡ count * size
-    = sym (add-mul a (count - a) size) ∙ ap (λ (x : ℕ). x * size) (let q : a + (count - a) ≡ count = omega arith in q) in
-    record { before = l; bytes = omega arith; rest = omega arith }
+      before : m * (4 * (128 / size)) ≤ length xs / size
+      before = (le-div_iff_mul-le pos).1 (omega (arith, fill, div-mul-le_self (length xs) 512))
 
--- the first byte of sample k after the fours
-pub rest-same : (dat : List ℕ) (size in_four fours count limit : ℕ) → in_four * size ≡ 512
-    → all_below count (λ k. ltb (get_or dat (fours * 512 + k * size) 0) limit) ≡ all_below count (λ k. ltb (get_or dat ((fours * in_four + k) * size) 0) limit)
-rest-same dat size in_four fours count limit e =
-    below_ext count _ _ (λ k l. ap (λ (x : ℕ). ltb (get_or dat x 0) limit) (sym (first_byte_lem size in_four fours k 512 e)))
+      chunk : (q : ℕ) → q < m → first_bytes_below (get_or (first_chunks 512 m xs) q []) size limit
+          ≡ all_below (4 * (128 / size)) (λ i. ltb (get_or xs ((q * (4 * (128 / size)) + i) * size) 0) limit)
+      chunk q h =
+          let l : length (take 512 (drop (q * 512) xs)) ≡ 512 = simp (length-take, length-drop) (omega (arith, div-mul-le_self (length xs) 512)) in
+          ap (λ (ys : List ℕ). first_bytes_below ys size limit) (get_or-first_chunks 512 m q xs h)
+          ∙ samples_of _ size limit (ap (λ (n : ℕ). n / size) l ∙ div-eq_of_eq-mul_left pos (sym in_four))
+          ∙ below_ext _ _ _ (λ i k. ap (λ (x : ℕ). ltb x limit)
+          (get_or-take 512 (drop (q * 512) xs) (i * size) 0 (omega (arith, within i (4 * (128 / size)) size k, in_four))
+          ∙ get_or-drop (q * 512) xs (i * size) 0 ∙ ap (λ (x : ℕ). get_or xs x 0) (sym (first_byte_lem size (4 * (128 / size)) q i 512 in_four))))
 
-pub none_before : (dat : List ℕ) (size count limit : ℕ)
-    → all_below count (λ k. ltb (get_or dat (0 + k * size) 0) limit) ≡ all_below count (λ k. ltb (get_or dat (k * size) 0) limit)
-none_before dat size count limit = below_ext count _ _ (λ k l. ap (λ (x : ℕ). ltb (get_or dat x 0) limit) (zero-add (k * size)))
+      rest : first_bytes_below (drop (m * 512) xs) size limit
+          ≡ all_below (length xs / size - m * (4 * (128 / size))) (λ k. ltb (get_or xs ((m * (4 * (128 / size)) + k) * size) 0) limit)
+      rest =
+          samples_of _ size limit (ap (λ (n : ℕ). n / size) (length-drop (m * 512) xs ∙ ap (λ (x : ℕ). length xs - x) (sym fill)) ∙ after (length xs) size (m * (4 * (128 / size))) pos before)
+          ∙ below_ext _ _ _ (λ k h. ap (λ (x : ℕ). ltb x limit)
+          (get_or-drop (m * 512) xs (k * size) 0 ∙ ap (λ (x : ℕ). get_or xs x 0) (sym (first_byte_lem size (4 * (128 / size)) m k 512 in_four))))
+
+  -- the same, where `told` is what was told of the fours
+  pub fours_tell : (xs : List ℕ) (told : Bool) {fours : List (List ℕ)} {rest : List ℕ} → length fours ≡ length xs / 512 → fours ≡ first_chunks 512 (length xs / 512) xs
+      → rest ≡ drop (length xs / 512 * 512) xs → told ≡ all_below (length fours) (λ q. first_bytes_below (get_or fours q []) size limit)
+      → (told && first_bytes_below rest size limit) ≡ first_bytes_below xs size limit
+  fours_tell xs told l f r t = rw (t, l, f, r) (chunks_tell xs)
 
 -- ---- a sample and its first byte
 

@@ -8,8 +8,7 @@ use native.Mathlib.Nat.{suc-mul, add-zero}
 use lib.Arith.{digits_div, digits_mod}
 use Rattle.grid.specs.declared.Grid.{Grid}
 use Rattle.common.specs.Tests.{pick}
-use Rattle.marks.specs.declared.FirstUnmarked.{FirstUnmarked}
-use Rattle.marks.specs.declared.FirstUnmarked.TheVariants.{None, Block}
+use Rattle.std.specs.Prelude.{Option, Some, None}
 use Rattle.marks.specs.Marks.{one_if, count, first_from, first_not}
 use Rattle.marks.proofs.Marks.{count_add}
 use Rattle.calls.specs.declared.Answer.{Answer}
@@ -50,7 +49,7 @@ count-is g t reached a =
 
 -- ---- the first that is not reached
 
-first_opened : (t : ℕ → Bool) (across k i : ℕ) → first_from t across (suc k) i ≡ pick (t i) (first_from t across k (suc i)) (Block (i / across) (i % across))
+first_opened : (t : ℕ → Bool) (across k i : ℕ) → first_from t across (suc k) i ≡ pick (t i) (first_from t across k (suc i)) (Some (i / across, i % across))
 unfolding first_from
 first_opened t across k i = refl
 
@@ -59,8 +58,8 @@ unfolding first_from
 first_done t across i = refl
 
 module _ (across : ℕ) (t : ℕ → Bool) (reached : ℕ → ℕ → Bool) where
-  one-step : (b : Bool) (row column : ℕ) (rest : FirstUnmarked) (own : Answer) → unmarked_answer rest ≡ own
-      → unmarked_answer (pick b rest (Block row column)) ≡ pick b own (record { number = 15; first = row; second = column })
+  one-step : (b : Bool) (row column : ℕ) (rest : Option (ℕ × ℕ)) (own : Answer) → unmarked_answer rest ≡ own
+      → unmarked_answer (pick b rest (Some (row, column))) ≡ pick b own (record { number = 15; first = row; second = column })
   unfolding pick
   one-step true row column rest own e = e
   one-step false row column rest own e = refl
@@ -77,7 +76,7 @@ module _ (across : ℕ) (t : ℕ → Bool) (reached : ℕ → ℕ → Bool) wher
       let i : suc (row * across + column) ≡ row * across + suc column = omega arith in
       ap (λ (k : ℕ). unmarked_answer (first_from t across k (row * across + column))) z
       ∙ ap unmarked_answer (first_opened t across (n + m) (row * across + column))
-      ∙ (λ j. unmarked_answer (pick (a column c j) (first_from t across (n + m) (i j)) (Block (digits_div row c j) (digits_mod row c j))))
+      ∙ (λ j. unmarked_answer (pick (a column c j) (first_from t across (n + m) (i j)) (Some (digits_div row c j, digits_mod row c j))))
       ∙ one-step (reached row column) row column (first_from t across (n + m) (row * across + suc column)) _ (in_row row (suc column) n m (omega arith) a)
 
   in_rows : (row n : ℕ) → ((y x : ℕ) → y < row + n → x < across → t (y * across + x) ≡ reached y x)

@@ -1,9 +1,10 @@
 // Where the three parts of the image subheader and the image stand, in a file of MIL-STD-2500C with one image of two
 // bands that has no corner coordinates (ICORDS), no comments (NICOM) and no look-up tables (NLUTS).
-ghost use Rattle.std.specs.Prelude.{◌<◌};
+ghost use Rattle.std.specs.Prelude.{◌+◌, ◌≤◌};
 
 use grid::EdgeRule;
-use subheader::{ImageSubheader, ReadSubheader};
+use refusals::Refusal;
+use subheader::ImageSubheader;
 
 // Fields of the file header: the lengths of this header, of the image subheader and of the image.
 const HL: usize = 354;
@@ -21,63 +22,52 @@ const NBANDS: usize = 375;
 
 const IMODE: usize = 403;
 
-// A byte of the file; 0 past its end.
-fn byte_at(file: &[u8], at: usize) -> u8 {
-    if at < file.len() { file[at] } else { 0 }
+// So many bytes; None where there are fewer.
+fn part(bytes: &[u8], at: usize, size: usize) -> Option<&[u8]> {
+    bytes.get(at..at.checked_add(size)?)
 }
 
-// The number with one more decimal digit; of a long number the last ten digits are kept.
-fn with_digit(number: usize, digit: u8) -> usize
-    ensures { result < 20000000000 }
+// A decimal digit, the low four bits of its byte; past the end it is 0. Here `parse` would answer nothing, and a file
+// that is cut short would not be refused by 23.
+fn digit(bytes: &[u8], at: usize) -> u8 {
+    bytes.get(at).map_or(0, |byte| *byte % 16)
+}
+
+// A field of so many digits, at most ten.
+fn field(bytes: &[u8], at: usize, digits: usize) -> usize
+    requires { at + digits ≤ 1000 }
 {
-    number % 1_000_000_000 * 10 + digit as usize % 16
+    (at..at + digits).fold(
+        0,
+        |number, at| number % 1_000_000_000 * 10 + digit(bytes, at) as usize,
+    )
 }
 
-// A field of so many digits.
-fn field(file: &[u8], at: usize, digits: usize) -> usize
-    requires { (at < 100000000000) × (digits < 16) }
-    ensures { result < 20000000000 }
-{
-    let mut number = 0;
-    for k in 0..digits {
-        number = with_digit(number, byte_at(file, at + k));
-    }
-    number
+// The bytes of the file from the image subheader on.
+fn from_subheader(file: &[u8]) -> Option<&[u8]> {
+    file.get(field(file, HL, 6)..)
 }
 
-// So many bytes of the image subheader; none where the file ends before them.
-fn part(file: &[u8], at: usize, size: usize) -> &[u8]
-    requires { (at < 1000) × (size < 1000) }
-{
-    let start = field(file, HL, 6) + at;
-    let end = start + size;
-    if file.len() < end {
-        return &file[0..0];
-    }
-    &file[start..end]
+// The bytes of the image.
+pub fn image_of(file: &[u8]) -> Option<&[u8]> {
+    part(
+        from_subheader(file)?,
+        field(file, LISH001, 6),
+        field(file, LI001, 10),
+    )
 }
 
-// The bands of the image.
-fn bands(file: &[u8]) -> u32 {
-    (field(file, field(file, HL, 6) + NBANDS, 1) % 4_294_967_296) as u32
-}
-
-// Where the image's bytes start.
-pub fn image_start(file: &[u8]) -> usize
-    ensures { result < 40000000000 }
-{
-    field(file, HL, 6) + field(file, LISH001, 6)
-}
-
-// Where they end.
-pub fn image_end(file: &[u8]) -> usize {
-    image_start(file) + field(file, LI001, 10)
+// A part of the image subheader; a file that ends before it is refused.
+fn subheader_part(subheader: &[u8], at: usize, size: usize) -> Result<&[u8], Refusal> {
+    part(subheader, at, size).ok_or(Refusal::SubheaderPart)
 }
 
 // What the image subheader says; the standard's blocks are full.
-pub fn subheader_of(file: &[u8]) -> ReadSubheader {
-    let first = part(file, NROWS, ImageSubheader::FIRST_BYTES);
-    let second = part(file, IC, ImageSubheader::SECOND_BYTES);
-    let third = part(file, IMODE, ImageSubheader::THIRD_BYTES);
-    ImageSubheader::read(first, second, third, bands(file), EdgeRule::Full)
+pub fn subheader_of(file: &[u8]) -> Result<ImageSubheader, Refusal> {
+    let subheader = from_subheader(file).ok_or(Refusal::SubheaderPart)?;
+    let first = subheader_part(subheader, NROWS, ImageSubheader::FIRST_BYTES)?;
+    let second = subheader_part(subheader, IC, ImageSubheader::SECOND_BYTES)?;
+    let third = subheader_part(subheader, IMODE, ImageSubheader::THIRD_BYTES)?;
+    let bands = digit(subheader, NBANDS) as u32;
+    ImageSubheader::read(first, second, third, bands, EdgeRule::Full)
 }

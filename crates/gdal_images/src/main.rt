@@ -5,150 +5,121 @@
 // tools/packed_images.py made the packed images, and their lines from what GDAL reads out of them.
 #![tactic(auto)]
 
-ghost use Rattle.std.specs.Prelude.{◌≤◌, length, IfOk};
-
 mod header;
 
-use crate::header::{image_end, image_start, subheader_of};
+use crate::header::{image_of, subheader_of};
 use grid::Grid;
-use printing::{print_number, print_read, print_text};
-use std::fs::File;
-use std::io::Read;
+use printing::ReadAnswer;
+use std::rt::Files;
 use std::{fs, io};
+use windows::Rectangle;
 
 // The most columns of an image that is printed as a whole.
 const MAX_COLUMNS: u32 = 19;
 
-// A block of at most 8 columns, 4 rows and 2 bands, with its shape.
-fn print_block(image: &[u8], grid: Grid, row: u32, column: u32) {
-    print_text(b"block ");
-    print_number(row as u64);
-    print_number(column as u64);
-    let mut out = [0u8; 512];
-    let none: [u32; 0] = [];
-    let shape = reading::decode_block(image, grid, row, column, 0, true, &none, &mut out);
-    print_read(shape, &out);
+#[derive(Clone, Copy)]
+struct Picture<'a> {
+    image: &'a [u8],
+    grid: Grid,
 }
 
-fn print_block_row(image: &[u8], grid: Grid, row: u32) {
-    for column in 0..grid.nbpr {
-        print_block(image, grid, row, column);
+impl<'a> Picture<'a> {
+    // A block of at most 8 columns, 4 rows and 2 bands, with its shape.
+    fn print_block(self, rt: &impl Print, row: u32, column: u32) -> io::Result<()> {
+        let mut out = [0u8; 512];
+        let read = reading::decode_block(self.image, self.grid, row, column, 0, None, &mut out);
+        println!(rt; "block {row} {column} {}", ReadAnswer { read, out: &out })
     }
-}
 
-fn print_blocks(image: &[u8], grid: Grid) {
-    for row in 0..grid.nbpc {
-        print_block_row(image, grid, row);
+    fn print_blocks(self, rt: &impl Print) -> io::Result<()> {
+        for row in 0..self.grid.nbpc {
+            for column in 0..self.grid.nbpr {
+                self.print_block(rt, row, column)?;
+            }
+        }
+        Ok(())
     }
-}
 
-// A row of the picture, both bands, of at most 19 columns.
-fn print_row(image: &[u8], grid: Grid, row: u32) {
-    print_text(b"row ");
-    print_number(row as u64);
-    let mut out = [0u8; 304];
-    let none: [u32; 0] = [];
-    let shape = windows::read_window(image, grid, row, 0, 1, grid.ncols, true, &none, &mut out);
-    print_read(shape, &out);
-}
-
-fn print_rows(image: &[u8], grid: Grid) {
-    for row in 0..grid.nrows {
-        print_row(image, grid, row);
+    // Columns of a row of the picture, both bands.
+    fn print_columns(
+        self,
+        rt: &impl Print,
+        row: u32,
+        column: u32,
+        columns: u32,
+        out: &mut [u8],
+    ) -> io::Result<()> {
+        let part = Rectangle {
+            row,
+            column,
+            rows: 1,
+            columns,
+        };
+        let read = windows::read_window(self.image, self.grid, part, None, out);
+        println!(rt; "{}", ReadAnswer { read, out })
     }
-}
 
-// Eight columns of a row of the picture, both bands.
-fn print_columns(image: &[u8], grid: Grid, row: u32, column: u32) {
-    print_text(b"row ");
-    print_number(row as u64);
-    print_text(b"column ");
-    print_number(column as u64);
-    let mut out = [0u8; 16];
-    let none: [u32; 0] = [];
-    let shape = windows::read_window(image, grid, row, column, 1, 8, true, &none, &mut out);
-    print_read(shape, &out);
-}
-
-// The first and the last of 9,000 columns, and some on both sides of column 8,192.
-fn print_wide_row(image: &[u8], grid: Grid, row: u32) {
-    print_columns(image, grid, row, 0);
-    print_columns(image, grid, row, 8_188);
-    print_columns(image, grid, row, 8_992);
-}
-
-// The columns of a block, then samples of both rows.
-fn print_wide(image: &[u8], grid: Grid) {
-    print_text(b"NPPBH ");
-    print_number(grid.nppbh as u64);
-    print_text(b"\n");
-    print_wide_row(image, grid, 0);
-    print_wide_row(image, grid, 1);
-}
-
-// The length of the image, then samples.
-fn print_image(image: &[u8], grid: Grid) {
-    print_number(image.len() as u64);
-    print_text(b"\n");
-    if MAX_COLUMNS < grid.ncols {
-        print_wide(image, grid);
-        return;
+    // The rows of at most 19 columns.
+    fn print_rows(self, rt: &impl Print) -> io::Result<()> {
+        for row in 0..self.grid.nrows {
+            let mut out = [0u8; 304];
+            print!(rt; "row {row} ")?;
+            self.print_columns(rt, row, 0, self.grid.ncols, &mut out)?;
+        }
+        Ok(())
     }
-    print_blocks(image, grid);
-    print_rows(image, grid);
+
+    // The columns of a block, then eight columns of both rows: the first and the last of 9,000, and those on both sides
+    // of column 8,192.
+    fn print_wide(self, rt: &impl Print) -> io::Result<()> {
+        println!(rt; "NPPBH {} ", self.grid.nppbh)?;
+        for row in [0, 1] {
+            for column in [0, 8_188, 8_992] {
+                let mut out = [0u8; 16];
+                print!(rt; "row {row} column {column} ")?;
+                self.print_columns(rt, row, column, 8, &mut out)?;
+            }
+        }
+        Ok(())
+    }
+
+    // The length of the image, then samples.
+    fn print(self, rt: &impl Print) -> io::Result<()> {
+        println!(rt; "{} ", self.image.len())?;
+        if MAX_COLUMNS < self.grid.ncols {
+            return self.print_wide(rt);
+        }
+        self.print_blocks(rt)?;
+        self.print_rows(rt)
+    }
 }
 
 // The number of the subheader, then the image where it is 0.
-fn print_file(file: &[u8]) {
-    let start = image_start(file);
-    let end = image_end(file);
-    if end < start {
-        return;
-    }
-    if file.len() < end {
-        return;
-    }
-    let read = subheader_of(file);
-    print_number(read.number as u64);
-    if read.number != 0 {
-        print_text(b"\n");
-        return;
-    }
-    let subheader = read.subheader;
-    print_image(&file[start..end], subheader.grid);
-}
-
-// The first bytes of a file, as many as `buf` holds, and their count.
-fn read_full(file: &mut File, buf: &mut [u8]) -> io::Result<usize>
-    ensures { IfOk result (λ n. n ≤ length buf.new) }
-{
-    let mut done = 0;
-    for _ in 0..u64::MAX {
-        let n = file.read(&mut buf[done..])?;
-        if n == 0 {
-            break;
+fn print_file(rt: &impl Print, file: &[u8]) -> io::Result<()> {
+    let Some(image) = image_of(file) else {
+        return Ok(());
+    };
+    match subheader_of(file) {
+        Ok(subheader) => {
+            print!(rt; "0 ")?;
+            let grid = subheader.grid;
+            Picture { image, grid }.print(rt)
         }
-        done += n;
+        Err(refusal) => println!(rt; "{} ", refusal.number()),
     }
-    Ok(done)
 }
 
-fn print_named(rt: &HostRuntime, name: &str) -> io::Result<()> {
-    print_text(name.as_bytes());
-    print_text(b" ");
-    let mut file = fs::open(rt, name)?;
-    let mut bytes = [0u8; 40000];
-    let n = read_full(&mut file, &mut bytes)?;
-    print_file(&bytes[..n]);
-    Ok(())
+fn print_named(rt: &(impl Files + Print + Alloc), name: &str) -> io::Result<()> {
+    print!(rt; "{name} ")?;
+    let bytes = fs::read(rt, name)?;
+    print_file(rt, &bytes)
 }
 
 fn main(rt: HostRuntime) -> io::Result<()> {
-    print_named(&rt, "8.ntf")?;
-    print_named(&rt, "16.ntf")?;
-    print_named(&rt, "32.ntf")?;
-    print_named(&rt, "64.ntf")?;
-    print_named(&rt, "wide.ntf")?;
-    print_named(&rt, "12.ntf")?;
-    print_named(&rt, "4.ntf")
+    for name in [
+        "8.ntf", "16.ntf", "32.ntf", "64.ntf", "wide.ntf", "12.ntf", "4.ntf",
+    ] {
+        print_named(&rt, name)?;
+    }
+    Ok(())
 }

@@ -8,19 +8,18 @@ use Rattle.layout.specs.declared.InterleaveMode.TheVariants.{B, P, R, S}
 use Rattle.grid.specs.declared.EdgeRule.{EdgeRule}
 use Rattle.grid.specs.declared.EdgeRule.TheVariants.{Tight, Full}
 use Rattle.fields.specs.Named.{imode_text}
-use Rattle.gezdunar.specs.declared.names.NamedMode.TheVariants.{Mode}
-use Rattle.gezdunar.specs.declared.names.NamedRule.TheVariants.{Rule}
+use Rattle.std.specs.Prelude.{Some}
 use Rattle.gezdunar.specs.Boundary.{mode_of, edges_letter, rule_of, named_grid}
 use Rattle.gezdunar.specs.Subheaders.{NumbersNameTheGrid}
 
-mode_back : (m : InterleaveMode) → mode_of (get_or (imode_text m) 0 0) ≡ Mode m
+mode_back : (m : InterleaveMode) → mode_of (get_or (imode_text m) 0 0) ≡ Some m
 unfolding mode_of pick
 mode_back B = refl
 mode_back P = refl
 mode_back R = refl
 mode_back S = refl
 
-rule_back : (e : EdgeRule) → rule_of (edges_letter e) ≡ Rule e
+rule_back : (e : EdgeRule) → rule_of (edges_letter e) ≡ Some e
 unfolding rule_of pick
 rule_back Tight = refl
 rule_back Full = refl

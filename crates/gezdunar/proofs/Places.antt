@@ -6,6 +6,10 @@ use mathlib.Core.List.{List, []}
 use lib.ListN.{length, take, drop}
 use Rattle.common.specs.Questions.{outcome}
 use Rattle.common.proofs.Questions.{outcome-yes, refused-by}
+use Rattle.std.specs.Prelude.{Result, Ok, Err, IfOk}
+use Rattle.refusals.specs.declared.Refusal.{Refusal}
+use Rattle.refusals.specs.Refusals.{answer_number}
+use Rattle.refusals.proofs.Numbers.{number-some}
 use Rattle.grid.specs.declared.Grid.{Grid}
 use Rattle.grid.specs.declared.places.Span.{Span}
 use Rattle.grid.specs.Layout.{whole_start, whole_length}
@@ -13,7 +17,7 @@ use Rattle.grid.specs.Internal.BlockLayouts.{whole_span}
 use Rattle.calls.specs.Orders.{whole_number}
 use Rattle.calls.specs.Reads.{whole_block}
 use Rattle.gezdunar.specs.declared.Place.{Place}
-use Rattle.gezdunar.specs.Boundary.{empty_at, part_at, whole_place}
+use Rattle.gezdunar.specs.Boundary.{empty_at, part_at, place_of, whole_place}
 
 module _ (g : Grid) (n row column : ℕ) {k : ℕ} (e : k ≡ whole_number g n row column) where
   -- beside a refusal
@@ -25,6 +29,12 @@ module _ (g : Grid) (n row column : ℕ) {k : ℕ} (e : k ≡ whole_number g n r
   pub place-known : {block : Span} → k ≡ 0 → block ≡ whole_span g row column → part_at block.start block.length ≡ whole_place g n row column
   unfolding whole_place
   place-known z b = ap (λ (s : Span). part_at s.start s.length) b ∙ sym (outcome-yes _ empty_at (sym e ∙ z))
+
+-- by what is found
+pub place-found : (g : Grid) (n row column : ℕ) (found : Result Span Refusal) → answer_number found ≡ whole_number g n row column
+    → IfOk found (λ s. s ≡ whole_span g row column) → place_of found ≡ whole_place g n row column
+place-found g n row column (Ok span) e same = place-known g n row column e refl same
+place-found g n row column (Err refusal) e same = place-refused g n row column e (number-some refusal)
 
 -- the bytes at that place are the whole block's
 abbrev pub bytes_at : Place → List ℕ → List ℕ

@@ -1,10 +1,13 @@
 -- The C boundary: the grid crosses as its numbers, with IMODE as its letter's byte and the edge rule as T or F; a byte
 -- that is no mode, or no rule, is refused with 99, before question 1.
 -- Assumes nothing.
-use Rattle.std.specs.Prelude.{ℕ, ◌+◌, ◌*◌, false, List, eqb}
+use Rattle.std.specs.Prelude.{ℕ, ◌+◌, ◌*◌, false, List, Option, Some, None, Result, Ok, Err, eqb}
 use Rattle.grid.specs.declared.EdgeRule.{EdgeRule}
 use Rattle.grid.specs.declared.EdgeRule.TheVariants.{Tight, Full}
 use Rattle.grid.specs.declared.Grid.{Grid}
+use Rattle.grid.specs.declared.places.Span.{Span}
+use Rattle.refusals.specs.declared.Refusal.{Refusal}
+use Rattle.refusals.specs.Refusals.{number_of}
 use Rattle.layout.specs.declared.InterleaveMode.{InterleaveMode}
 use Rattle.layout.specs.declared.InterleaveMode.TheVariants.{B, P, R, S}
 use Rattle.common.specs.Questions.{outcome}
@@ -26,12 +29,6 @@ use Rattle.mask.specs.Mask.{no_mask, WrittenOut, MarksOut}
 use Rattle.gezdunar.specs.declared.GridNumbers.{GridNumbers}
 use Rattle.gezdunar.specs.declared.Place.{Place}
 use Rattle.gezdunar.specs.declared.GridSizes.{GridSizes}
-use Rattle.gezdunar.specs.declared.names.NamedMode.{NamedMode}
-use Rattle.gezdunar.specs.declared.names.NamedMode.TheVariants.{Mode, NoMode}
-use Rattle.gezdunar.specs.declared.names.NamedRule.{NamedRule}
-use Rattle.gezdunar.specs.declared.names.NamedRule.TheVariants.{Rule, NoRule}
-use Rattle.gezdunar.specs.declared.names.NamedGrid.{NamedGrid}
-use Rattle.gezdunar.specs.declared.names.NamedGrid.TheVariants.{Known, Unknown}
 
 -- ---- the version and the grid
 
@@ -56,32 +53,24 @@ numbers_of nrows ncols bands nbpp imode edges nppbv nppbh =
     }
 
 -- the mode of a letter's byte
-unfoldable pub mode_of : ℕ → NamedMode
+unfoldable pub mode_of : ℕ → Option InterleaveMode
 mode_of byte =
-    pick (eqb byte 66) (Mode B)
-    (pick (eqb byte 80) (Mode P) (pick (eqb byte 82) (Mode R) (pick (eqb byte 83) (Mode S) NoMode)))
+    pick (eqb byte 66) (Some B)
+    (pick (eqb byte 80) (Some P) (pick (eqb byte 82) (Some R) (pick (eqb byte 83) (Some S) None)))
 
 -- the letter of an edge rule, T or F, and the rule of a letter's byte
 abbrev pub edges_letter : EdgeRule → ℕ
 edges_letter Tight = 84
 edges_letter Full = 70
 
-unfoldable pub rule_of : ℕ → NamedRule
+unfoldable pub rule_of : ℕ → Option EdgeRule
 rule_of byte =
-    pick (eqb byte (edges_letter Tight)) (Rule Tight) (pick (eqb byte (edges_letter Full)) (Rule Full) NoRule)
+    pick (eqb byte (edges_letter Tight)) (Some Tight) (pick (eqb byte (edges_letter Full)) (Some Full) None)
 
--- what a call gives in a known mode, under a known rule or on a known grid, and what it gives where the byte is none
-abbrev pub on_mode : {A : Type 0} → NamedMode → (InterleaveMode → A) → A → A
-on_mode (Mode m) call refused = call m
-on_mode NoMode call refused = refused
-
-abbrev pub on_rule : {A : Type 0} → NamedRule → (EdgeRule → A) → A → A
-on_rule (Rule e) call refused = call e
-on_rule NoRule call refused = refused
-
-abbrev pub on_grid : {A : Type 0} → NamedGrid → (Grid → A) → A → A
-on_grid (Known g) call refused = call g
-on_grid Unknown call refused = refused
+-- what a call gives where the bytes name a mode, a rule or a grid, and what it gives where they name none
+abbrev pub on_known : {A B : Type 0} → Option A → (A → B) → B → B
+on_known (Some x) call refused = call x
+on_known None call refused = refused
 
 -- the grid of the numbers in a mode, under a rule
 abbrev pub grid_in : GridNumbers → InterleaveMode → EdgeRule → Grid
@@ -100,8 +89,8 @@ grid_in n m e =
     }
 
 -- the grid that the numbers name, unless IMODE's byte is no mode or the rule's byte is no rule
-unfoldable pub named_grid : GridNumbers → NamedGrid
-named_grid n = on_mode (mode_of n.imode) (λ m. on_rule (rule_of n.edges) (λ e. Known (grid_in n m e)) Unknown) Unknown
+unfoldable pub named_grid : GridNumbers → Option Grid
+named_grid n = on_known (mode_of n.imode) (λ m. on_known (rule_of n.edges) (λ e. Some (grid_in n m e)) None) None
 
 -- ---- answers
 
@@ -147,6 +136,11 @@ empty_at n = record { number = n; start = 0; length = 0 }
 
 abbrev pub part_at : ℕ → ℕ → Place
 part_at start length = record { number = 0; start = start; length = length }
+
+-- a span that a call gives, as it crosses
+abbrev pub place_of : Result Span Refusal → Place
+place_of (Ok span) = part_at span.start span.length
+place_of (Err refusal) = empty_at (number_of refusal)
 
 -- where the whole nominal block lies in an image of n bytes; an empty part beside a refusal and in S
 unfoldable pub whole_place : Grid → ℕ → ℕ → ℕ → Place

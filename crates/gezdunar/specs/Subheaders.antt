@@ -1,7 +1,7 @@
 -- The subheader's fields across the C boundary: named values as their bytes. A byte that is no edge rule is refused with
 -- 99, then one that is no named value with 24, before question 1.
 -- Assumes nothing.
-use Rattle.std.specs.Prelude.{ℕ, ◌≡◌, Bool, List, [], ◌∷◌, get_or, replicate}
+use Rattle.std.specs.Prelude.{ℕ, ◌≡◌, Bool, List, [], ◌∷◌, Some, get_or, replicate}
 use Rattle.common.specs.Questions.{outcome}
 use Rattle.common.specs.Tests.{every, pick}
 use Rattle.layout.specs.declared.InterleaveMode.TheVariants.{B}
@@ -11,15 +11,13 @@ use Rattle.fields.specs.declared.named.PixelValueType.TheVariants.{UnsignedInt}
 use Rattle.fields.specs.declared.named.PixelJustification.TheVariants.{Right}
 use Rattle.fields.specs.declared.named.ImageCompression.TheVariants.{NC}
 use Rattle.subheader.specs.declared.ImageSubheader.{ImageSubheader}
-use Rattle.subheader.specs.declared.ReadSubheader.{ReadSubheader}
 use Rattle.fields.specs.Named.{is_named, value_of, pvtypes, pvtype_text, pjusts, pjust_text, ics, ic_text}
 use Rattle.fields.specs.Named.{imodes, imode_text}
-use Rattle.subheader.specs.Subheader.{PartsOut, parts_out, write_subheader}
+use Rattle.subheader.specs.Subheader.{ReadSubheader, PartsOut, parts_out, write_subheader}
 use Rattle.gezdunar.specs.declared.GridNumbers.{GridNumbers}
 use Rattle.gezdunar.specs.declared.SubheaderBytes.{SubheaderBytes}
 use Rattle.gezdunar.specs.declared.SubheaderAnswer.{SubheaderAnswer}
-use Rattle.gezdunar.specs.declared.names.NamedGrid.TheVariants.{Known}
-use Rattle.gezdunar.specs.Boundary.{edges_letter, rule_of, on_rule, grid_in, named_grid}
+use Rattle.gezdunar.specs.Boundary.{edges_letter, rule_of, on_known, grid_in, named_grid}
 
 -- ---- reading
 
@@ -41,7 +39,7 @@ numbers_in g =
 
 -- the numbers that the reader answers name its grid in every call
 abbrev pub NumbersNameTheGrid : Type 0
-NumbersNameTheGrid = (g : Grid) → named_grid (numbers_in g) ≡ Known g
+NumbersNameTheGrid = (g : Grid) → named_grid (numbers_in g) ≡ Some g
 
 abbrev pub bytes_of : ImageSubheader → SubheaderBytes
 bytes_of s =
@@ -122,4 +120,4 @@ write_under e s first second third =
 
 unfoldable pub write_bytes : SubheaderBytes → List ℕ → List ℕ → List ℕ → PartsOut
 write_bytes s first second third =
-    on_rule (rule_of s.grid.edges) (λ e. write_under e s first second third) (parts_out 99 first second third)
+    on_known (rule_of s.grid.edges) (λ e. write_under e s first second third) (parts_out 99 first second third)

@@ -1,5 +1,6 @@
 // The C boundary: one function for each call, over the proved entry points. Slices cross as a pointer and a length,
 // the grid as a struct of its numbers; a byte that is no mode, or no edge rule, is refused with 99, before question 1.
+// C has neither Result nor Option: an answer is a struct with the number first, and bands are `all` and a list.
 #![tactic(auto)]
 
 mod masks;

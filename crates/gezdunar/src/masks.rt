@@ -1,34 +1,22 @@
 // The image data mask table across the boundary.
 ghost use Rattle.std.specs.Prelude.{◌≡◌};
 ghost use Rattle.mask.specs.Mask.{parse, has_block, get_block_offset, to_bytes, from_provided_blocks};
-ghost use Rattle.gezdunar.specs.Boundary.{named_grid, on_grid, header_of, written_out, marks_out};
+ghost use Rattle.gezdunar.specs.Boundary.{named_grid, on_known, header_of, written_out, marks_out};
 ghost use Rattle.gezdunar.specs.Boundary.{unknown_parsed, unknown_present, unknown_offset, unknown_written};
 
 use crate::GridNumbers;
-use crate::names::{NamedGrid, named_grid};
+use crate::names::named_grid;
 use mask::{BlockOffset, ImageDataMask, Parsed, Present, Written};
-
-// The answer where IMODE's byte is no mode.
-const NO_MODE: Parsed = Parsed {
-    number: 99,
-    mask: ImageDataMask {
-        image_data_offset: 0,
-        block_mask_record_length: 0,
-        pad_pixel_mask_record_length: 0,
-        pad_pixel_code_length: 0,
-        pad_pixel_code: 0,
-    },
-    used: 0,
-};
+use refusals::Refusal;
 
 // Reads a table's header and pad code.
 #[unsafe(no_mangle)]
 pub extern "C" fn gezdunar_mask_parse(table: &[u8], numbers: GridNumbers) -> Parsed
-    ensures { result ≡ on_grid (named_grid numbers) (λ g. parse g table.now) unknown_parsed }
+    ensures { result ≡ on_known (named_grid numbers) (λ g. parse g table.now) unknown_parsed }
 {
     match named_grid(numbers) {
-        NamedGrid::Known(grid) => ImageDataMask::parse(table, grid),
-        NamedGrid::Unknown => NO_MODE,
+        Some(grid) => Parsed::from(ImageDataMask::parse(table, grid)),
+        None => Parsed::from(Err(Refusal::NoMode)),
     }
 }
 
@@ -41,15 +29,14 @@ pub extern "C" fn gezdunar_has_block(
     block_col: u32,
     band: u32,
 ) -> Present
-    ensures { result ≡ on_grid (named_grid numbers)
+    ensures { result ≡ on_known (named_grid numbers)
         (λ g. has_block g table.now block_row block_col band) unknown_present }
 {
     match named_grid(numbers) {
-        NamedGrid::Known(grid) => ImageDataMask::has_block(table, grid, block_row, block_col, band),
-        NamedGrid::Unknown => Present {
-            number: 99,
-            present: false,
-        },
+        Some(grid) => Present::from(ImageDataMask::has_block(
+            table, grid, block_row, block_col, band,
+        )),
+        None => Present::from(Err(Refusal::NoMode)),
     }
 }
 
@@ -62,18 +49,14 @@ pub extern "C" fn gezdunar_get_block_offset(
     block_col: u32,
     band: u32,
 ) -> BlockOffset
-    ensures { result ≡ on_grid (named_grid numbers)
+    ensures { result ≡ on_known (named_grid numbers)
         (λ g. get_block_offset g table.now block_row block_col band) unknown_offset }
 {
     match named_grid(numbers) {
-        NamedGrid::Known(grid) => ImageDataMask::get_block_offset(
+        Some(grid) => BlockOffset::from(ImageDataMask::get_block_offset(
             table, grid, block_row, block_col, band,
-        ),
-        NamedGrid::Unknown => BlockOffset {
-            number: 99,
-            given: false,
-            offset: 0,
-        },
+        )),
+        None => BlockOffset::from(Err(Refusal::NoMode)),
     }
 }
 
@@ -89,7 +72,7 @@ pub extern "C" fn gezdunar_mask_write(
     pad_offsets: &[u32],
     out: &mut [u8],
 ) -> Written
-    ensures { written_out result out.new ≡ on_grid (named_grid numbers)
+    ensures { written_out result out.new ≡ on_known (named_grid numbers)
         (λ g. to_bytes g (header_of block_record_length pad_record_length code_length code)
         block_offsets.now pad_offsets.now out.old)
         (written_out unknown_written out.old) }
@@ -102,11 +85,8 @@ pub extern "C" fn gezdunar_mask_write(
         pad_pixel_code: code,
     };
     match named_grid(numbers) {
-        NamedGrid::Known(grid) => mask.to_bytes(block_offsets, pad_offsets, grid, out),
-        NamedGrid::Unknown => Written {
-            number: 99,
-            bytes: 0,
-        },
+        Some(grid) => Written::from(mask.to_bytes(block_offsets, pad_offsets, grid, out)),
+        None => Written::from(Err(Refusal::NoMode)),
     }
 }
 
@@ -117,12 +97,12 @@ pub extern "C" fn gezdunar_mask_from_marks(
     numbers: GridNumbers,
     out: &mut [u32],
 ) -> Parsed
-    ensures { marks_out result out.new ≡ on_grid (named_grid numbers)
+    ensures { marks_out result out.new ≡ on_known (named_grid numbers)
         (λ g. from_provided_blocks g marks.now out.old)
         (marks_out unknown_parsed out.old) }
 {
     match named_grid(numbers) {
-        NamedGrid::Known(grid) => ImageDataMask::from_provided_blocks(marks, grid, out),
-        NamedGrid::Unknown => NO_MODE,
+        Some(grid) => Parsed::from(ImageDataMask::from_provided_blocks(marks, grid, out)),
+        None => Parsed::from(Err(Refusal::NoMode)),
     }
 }

@@ -1,31 +1,12 @@
-// The version, a grid's numbers, and the grid that numbers name.
-ghost use Rattle.std.specs.Prelude.{◌≡◌};
+// The version, a grid's numbers, and what bytes and numbers name.
+ghost use Rattle.std.specs.Prelude.{◌≡◌, []};
+ghost use Rattle.common.specs.Tests.{pick};
+ghost use Rattle.layout.specs.Bands.{bands_in, bands_of};
 ghost use Rattle.gezdunar.specs.Boundary.{version, numbers_of, mode_of, rule_of, grid_in, named_grid};
 
 use crate::GridNumbers;
 use grid::{EdgeRule, Grid};
 use layout::InterleaveMode;
-
-// The mode of a byte.
-#[derive(Clone, Copy)]
-pub enum NamedMode {
-    Mode(InterleaveMode),
-    NoMode,
-}
-
-// The edge rule of a byte.
-#[derive(Clone, Copy)]
-pub enum NamedRule {
-    Rule(EdgeRule),
-    NoRule,
-}
-
-// The grid that numbers name, unless IMODE's byte is no mode or the rule's byte is no rule.
-#[derive(Clone, Copy)]
-pub enum NamedGrid {
-    Known(Grid),
-    Unknown,
-}
 
 // The boundary's version: major * 1,000,000 + minor * 1,000 + patch.
 #[unsafe(no_mangle)]
@@ -75,35 +56,29 @@ pub extern "C" fn gezdunar_grid(
 }
 
 // IMODE's letter.
-pub fn named_mode(byte: u8) -> NamedMode
+#[tactic(auto, unfolding(crate::specs::Boundary::mode_of, common::specs::Tests::pick))]
+pub fn named_mode(byte: u8) -> Option<InterleaveMode>
     ensures { result ≡ mode_of byte }
 {
-    if byte == b'B' {
-        return NamedMode::Mode(InterleaveMode::B);
+    match byte {
+        b'B' => Some(InterleaveMode::B),
+        b'P' => Some(InterleaveMode::P),
+        b'R' => Some(InterleaveMode::R),
+        b'S' => Some(InterleaveMode::S),
+        _ => None,
     }
-    if byte == b'P' {
-        return NamedMode::Mode(InterleaveMode::P);
-    }
-    if byte == b'R' {
-        return NamedMode::Mode(InterleaveMode::R);
-    }
-    if byte == b'S' {
-        return NamedMode::Mode(InterleaveMode::S);
-    }
-    NamedMode::NoMode
 }
 
 // The edge rule's letter.
-pub fn named_rule(byte: u8) -> NamedRule
+#[tactic(auto, unfolding(crate::specs::Boundary::rule_of, common::specs::Tests::pick))]
+pub fn named_rule(byte: u8) -> Option<EdgeRule>
     ensures { result ≡ rule_of byte }
 {
-    if byte == b'T' {
-        return NamedRule::Rule(EdgeRule::Tight);
+    match byte {
+        b'T' => Some(EdgeRule::Tight),
+        b'F' => Some(EdgeRule::Full),
+        _ => None,
     }
-    if byte == b'F' {
-        return NamedRule::Rule(EdgeRule::Full);
-    }
-    NamedRule::NoRule
 }
 
 // The grid of the numbers in a mode, under a rule.
@@ -124,14 +99,23 @@ pub fn grid_in(numbers: GridNumbers, imode: InterleaveMode, edges: EdgeRule) -> 
     }
 }
 
-pub fn named_grid(numbers: GridNumbers) -> NamedGrid
+// The grid that numbers name, unless IMODE's byte is no mode or the rule's byte is no rule. Each export matches it:
+// None is answered by a struct of its own, and the rest of the call stands in the other arm.
+#[tactic(auto, unfolding(crate::specs::Boundary::named_grid))]
+pub fn named_grid(numbers: GridNumbers) -> Option<Grid>
     ensures { result ≡ named_grid numbers }
 {
-    match named_mode(numbers.imode) {
-        NamedMode::Mode(mode) => match named_rule(numbers.edges) {
-            NamedRule::Rule(edges) => NamedGrid::Known(grid_in(numbers, mode, edges)),
-            NamedRule::NoRule => NamedGrid::Unknown,
-        },
-        NamedMode::NoMode => NamedGrid::Unknown,
-    }
+    Some(grid_in(
+        numbers,
+        named_mode(numbers.imode)?,
+        named_rule(numbers.edges)?,
+    ))
+}
+
+// The bands that C asks for: all, where it looks at no list, or those of the list.
+#[tactic(auto, unfolding(common::specs::Tests::pick))]
+pub fn asked_bands(all: bool, list: &[u32]) -> Option<&[u32]>
+    ensures { bands_in result ≡ bands_of all (pick all [] list.now) }
+{
+    if all { None } else { Some(list) }
 }

@@ -3,10 +3,11 @@ ghost use Rattle.std.specs.Prelude.{◌≡◌};
 ghost use Rattle.layout.specs.declared.InterleaveMode.TheVariants.{P, S};
 ghost use Rattle.layout.specs.Bands.{bands_of};
 ghost use Rattle.interleave.specs.Interleave.{every_band, refusal, reorder, reordered_with};
-ghost use Rattle.gezdunar.specs.Boundary.{mode_of, on_mode};
+ghost use Rattle.gezdunar.specs.Boundary.{mode_of, on_known};
 
-use crate::names::{NamedMode, named_mode};
+use crate::names::{asked_bands, named_mode};
 use interleave::Reordered;
+use refusals::Refusal;
 
 // Samples in the order of a mode, to band-sequential order.
 #[unsafe(no_mangle)]
@@ -19,12 +20,12 @@ pub extern "C" fn gezdunar_to_band_sequential(
     bytes_per_pixel: usize,
     out: &mut [u8],
 ) -> Reordered
-    ensures { reordered_with result out.new ≡ on_mode (mode_of imode)
+    ensures { reordered_with result out.new ≡ on_known (mode_of imode)
         (λ m. reorder m S every_band nrows ncols nbands bytes_per_pixel «data».now out.old)
         (reordered_with (refusal 99) out.old) }
 {
     match named_mode(imode) {
-        NamedMode::Mode(mode) => interleave::to_band_sequential(
+        Some(mode) => Reordered::from(interleave::to_band_sequential(
             data,
             mode,
             nrows,
@@ -32,12 +33,8 @@ pub extern "C" fn gezdunar_to_band_sequential(
             nbands,
             bytes_per_pixel,
             out,
-        ),
-        NamedMode::NoMode => Reordered {
-            number: 99,
-            bands: 0,
-            bytes: 0,
-        },
+        )),
+        None => Reordered::from(Err(Refusal::NoMode)),
     }
 }
 
@@ -52,12 +49,12 @@ pub extern "C" fn gezdunar_from_band_sequential(
     bytes_per_pixel: usize,
     out: &mut [u8],
 ) -> Reordered
-    ensures { reordered_with result out.new ≡ on_mode (mode_of imode)
+    ensures { reordered_with result out.new ≡ on_known (mode_of imode)
         (λ m. reorder S m every_band nrows ncols nbands bytes_per_pixel «data».now out.old)
         (reordered_with (refusal 99) out.old) }
 {
     match named_mode(imode) {
-        NamedMode::Mode(mode) => interleave::from_band_sequential(
+        Some(mode) => Reordered::from(interleave::from_band_sequential(
             data,
             mode,
             nrows,
@@ -65,12 +62,8 @@ pub extern "C" fn gezdunar_from_band_sequential(
             nbands,
             bytes_per_pixel,
             out,
-        ),
-        NamedMode::NoMode => Reordered {
-            number: 99,
-            bands: 0,
-            bytes: 0,
-        },
+        )),
+        None => Reordered::from(Err(Refusal::NoMode)),
     }
 }
 
@@ -89,5 +82,14 @@ pub extern "C" fn gezdunar_fused_bip_to_bsq(
     ensures { reordered_with result out.new ≡ reorder P S (bands_of all list.now)
         nrows ncols nbands bytes_per_pixel «data».now out.old }
 {
-    interleave::fused_bip_to_bsq(data, nrows, ncols, nbands, bytes_per_pixel, all, list, out)
+    let asked = asked_bands(all, list);
+    Reordered::from(interleave::fused_bip_to_bsq(
+        data,
+        nrows,
+        ncols,
+        nbands,
+        bytes_per_pixel,
+        asked,
+        out,
+    ))
 }

@@ -1,52 +1,51 @@
 // Sizes of a grid across the boundary.
-ghost use Rattle.std.specs.Prelude.{◌≡◌};
-ghost use Rattle.gezdunar.specs.Boundary.{named_grid, on_grid, no_sizes, sizes_of};
+ghost use Rattle.std.specs.Prelude.{◌≡◌, MatchResult};
+ghost use Rattle.refusals.specs.Refusals.{number_of};
+ghost use Rattle.gezdunar.specs.Boundary.{named_grid, on_known, no_sizes, sizes_of};
 
-use crate::names::{NamedGrid, named_grid};
+use crate::names::named_grid;
 use crate::{GridNumbers, GridSizes};
-use grid::Grid;
+use grid::AcceptedGrid;
+use refusals::Refusal;
 
-// What stands beside a refusal.
-fn no_sizes(number: u32) -> GridSizes
-    ensures { result ≡ no_sizes number }
-{
-    GridSizes {
-        number,
-        sample_bytes: 0,
-        band_bytes: 0,
-        block_bytes: 0,
-        image_bytes: 0,
-        blocks: 0,
-        mark_words: 0,
-    }
-}
+impl From<Result<AcceptedGrid, Refusal>> for GridSizes {
+    ghost from_gives = { λ checked sizes. MatchResult checked (λ a. sizes ≡ sizes_of a.grid)
+        (λ refusal. sizes ≡ no_sizes (number_of refusal)) };
 
-fn sizes_of(grid: Grid) -> GridSizes
-    ensures { result ≡ sizes_of grid }
-{
-    let number = grid.check();
-    if number != 0 {
-        return no_sizes(number);
-    }
-    let blocks = grid.blocks();
-    GridSizes {
-        number: 0,
-        sample_bytes: grid.sample_bytes(),
-        band_bytes: grid.band_bytes(),
-        block_bytes: grid.block_bytes(),
-        image_bytes: grid.image_bytes(),
-        blocks,
-        mark_words: marks::mark_words(blocks),
+    fn from(checked: Result<AcceptedGrid, Refusal>) -> Self {
+        match checked {
+            Ok(grid) => {
+                let blocks = grid.blocks();
+                GridSizes {
+                    number: 0,
+                    sample_bytes: grid.sample_bytes(),
+                    band_bytes: grid.band_bytes(),
+                    block_bytes: grid.block_bytes(),
+                    image_bytes: grid.image_bytes(),
+                    blocks,
+                    mark_words: marks::mark_words(blocks),
+                }
+            }
+            Err(refusal) => GridSizes {
+                number: refusal.number(),
+                sample_bytes: 0,
+                band_bytes: 0,
+                block_bytes: 0,
+                image_bytes: 0,
+                blocks: 0,
+                mark_words: 0,
+            },
+        }
     }
 }
 
 // The sizes of an accepted grid; zeros beside a refusal.
 #[unsafe(no_mangle)]
 pub extern "C" fn gezdunar_grid_sizes(numbers: GridNumbers) -> GridSizes
-    ensures { result ≡ on_grid (named_grid numbers) sizes_of (no_sizes 99) }
+    ensures { result ≡ on_known (named_grid numbers) sizes_of (no_sizes 99) }
 {
     match named_grid(numbers) {
-        NamedGrid::Known(grid) => sizes_of(grid),
-        NamedGrid::Unknown => no_sizes(99),
+        Some(grid) => GridSizes::from(grid.check()),
+        None => GridSizes::from(Err(Refusal::NoMode)),
     }
 }

@@ -1,20 +1,20 @@
 // The subheader's fields across the boundary.
-ghost use Rattle.std.specs.Prelude.{◌≡◌};
-ghost use Rattle.subheader.specs.Subheader.{parts_out, read_subheader};
+ghost use Rattle.std.specs.Prelude.{◌≡◌, IfOk};
+ghost use Rattle.common.specs.Questions.{ask};
+ghost use Rattle.refusals.specs.Refusals.{answer_number};
+ghost use Rattle.subheader.specs.Subheader.{parts_out, read_as_of, read_subheader};
+ghost use Rattle.gezdunar.specs.Boundary.{edges_letter, on_known, rule_of};
 ghost use Rattle.gezdunar.specs.Subheaders.{numbers_in, bytes_of, no_bytes, answer_of};
-ghost use Rattle.gezdunar.specs.Boundary.{edges_letter, on_rule, rule_of};
 ghost use Rattle.gezdunar.specs.Subheaders.{are_named, fields_of, write_under, write_bytes};
 
-use crate::names::{NamedRule, grid_in, named_rule};
+use crate::names::{grid_in, named_rule};
 use crate::{GridNumbers, SubheaderAnswer, SubheaderBytes};
-use fields::named::{
-    ImageCompression, PixelJustification, PixelValueType, mode_from_bytes, mode_is_named,
-    mode_to_bytes,
-};
+use fields::named::Named;
 use grid::{EdgeRule, Grid};
-use subheader::{ImageSubheader, ReadSubheader};
+use refusals::{Refusal, answer_number};
+use subheader::{ImageSubheader, named_value};
 
-// The letter of an edge rule.
+// The letter of an edge rule, which C gives and gets: a byte of the C interface, not its name.
 fn edges_letter(edges: EdgeRule) -> u8
     ensures { result ≡ edges_letter edges }
 {
@@ -25,90 +25,83 @@ fn edges_letter(edges: EdgeRule) -> u8
 }
 
 // A grid's numbers, IMODE and the edge rule as letters.
-fn numbers_in(grid: Grid) -> GridNumbers
-    ensures { result ≡ numbers_in grid }
-{
-    let mode = grid.imode;
-    let imode = mode_to_bytes(mode);
-    let edges = grid.edges;
-    GridNumbers {
-        nrows: grid.nrows,
-        ncols: grid.ncols,
-        bands: grid.bands,
-        nbpp: grid.nbpp,
-        imode: imode[0],
-        edges: edges_letter(edges),
-        nppbh: grid.nppbh,
-        nppbv: grid.nppbv,
-        nbpr: grid.nbpr,
-        nbpc: grid.nbpc,
+impl From<Grid> for GridNumbers {
+    ghost from_gives = { λ grid numbers. numbers ≡ numbers_in grid };
+
+    fn from(grid: Grid) -> Self {
+        GridNumbers {
+            nrows: grid.nrows,
+            ncols: grid.ncols,
+            bands: grid.bands,
+            nbpp: grid.nbpp,
+            imode: grid.imode.to_bytes()[0],
+            edges: edges_letter(grid.edges),
+            nppbh: grid.nppbh,
+            nppbv: grid.nppbv,
+            nbpr: grid.nbpr,
+            nbpc: grid.nbpc,
+        }
     }
 }
 
 // The fields with their named values as bytes.
-fn bytes_of(fields: ImageSubheader) -> SubheaderBytes
-    ensures { result ≡ bytes_of fields }
-{
-    let pvtype = fields.pvtype;
-    let justification = fields.pjust;
-    let ic = fields.ic;
-    let irep = fields.irep;
-    let icat = fields.icat;
-    let pjust = justification.to_bytes();
-    SubheaderBytes {
-        pvtype: pvtype.to_bytes(),
-        irep,
-        icat,
-        abpp: fields.abpp,
-        pjust: pjust[0],
-        ic: ic.to_bytes(),
-        grid: numbers_in(fields.grid),
+impl From<ImageSubheader> for SubheaderBytes {
+    ghost from_gives = { λ fields bytes. bytes ≡ bytes_of fields };
+
+    fn from(fields: ImageSubheader) -> Self {
+        let irep = fields.irep;
+        let icat = fields.icat;
+        SubheaderBytes {
+            pvtype: fields.pvtype.to_bytes(),
+            irep,
+            icat,
+            abpp: fields.abpp,
+            pjust: fields.pjust.to_bytes()[0],
+            ic: fields.ic.to_bytes(),
+            grid: GridNumbers::from(fields.grid),
+        }
     }
 }
 
-// What stands beside a refusal: zeros.
-fn no_bytes(number: u32) -> SubheaderAnswer
-    ensures { result ≡ no_bytes number }
-{
-    SubheaderAnswer {
-        number,
-        subheader: SubheaderBytes {
-            pvtype: [0; 3],
-            irep: [0; 8],
-            icat: [0; 8],
-            abpp: 0,
-            pjust: 0,
-            ic: [0; 2],
-            grid: GridNumbers {
-                nrows: 0,
-                ncols: 0,
-                bands: 0,
-                nbpp: 0,
-                imode: 0,
-                edges: 0,
-                nppbh: 0,
-                nppbv: 0,
-                nbpr: 0,
-                nbpc: 0,
+// The reader's answer as it crosses; zeros beside a refusal.
+impl From<Result<ImageSubheader, Refusal>> for SubheaderAnswer {
+    ghost from_gives = { λ read answer. answer ≡ answer_of (read_as_of read) };
+
+    fn from(read: Result<ImageSubheader, Refusal>) -> Self {
+        match read {
+            Ok(fields) => SubheaderAnswer {
+                number: 0,
+                subheader: SubheaderBytes::from(fields),
             },
-        },
-    }
-}
-
-// The reader's answer as it crosses.
-fn answer_of(read: ReadSubheader) -> SubheaderAnswer
-    ensures { result ≡ answer_of read }
-{
-    if read.number != 0 {
-        return no_bytes(read.number);
-    }
-    SubheaderAnswer {
-        number: 0,
-        subheader: bytes_of(read.subheader),
+            Err(refusal) => SubheaderAnswer {
+                number: refusal.number(),
+                subheader: SubheaderBytes {
+                    pvtype: [0; 3],
+                    irep: [0; 8],
+                    icat: [0; 8],
+                    abpp: 0,
+                    pjust: 0,
+                    ic: [0; 2],
+                    grid: GridNumbers {
+                        nrows: 0,
+                        ncols: 0,
+                        bands: 0,
+                        nbpp: 0,
+                        imode: 0,
+                        edges: 0,
+                        nppbh: 0,
+                        nppbv: 0,
+                        nbpr: 0,
+                        nbpc: 0,
+                    },
+                },
+            },
+        }
     }
 }
 
 // Reads three parts of an image subheader, for a picture of so many bands under an edge rule.
+#[tactic(auto, unfolding(crate::specs::Subheaders::answer_of, common::specs::Questions::outcome))]
 #[unsafe(no_mangle)]
 pub extern "C" fn gezdunar_subheader_read(
     first: &[u8],
@@ -117,74 +110,51 @@ pub extern "C" fn gezdunar_subheader_read(
     bands: u32,
     edges: u8,
 ) -> SubheaderAnswer
-    ensures { result ≡ on_rule (rule_of edges) (λ e. answer_of
+    ensures { result ≡ on_known (rule_of edges) (λ e. answer_of
         (read_subheader first.now second.now third.now bands e)) (no_bytes 99) }
 {
     match named_rule(edges) {
-        NamedRule::Rule(rule) => answer_of(ImageSubheader::read(first, second, third, bands, rule)),
-        NamedRule::NoRule => no_bytes(99),
+        Some(rule) => SubheaderAnswer::from(ImageSubheader::read(
+            first, second, third, bands, rule,
+        )),
+        None => SubheaderAnswer::from(Err(Refusal::NoMode)),
     }
 }
 
-// Are PVTYPE, PJUST, IC and IMODE named values?
-fn are_named(subheader: SubheaderBytes) -> bool
-    ensures { result ≡ are_named subheader }
+// The fields that the bytes name, under an edge rule; question 24.
+#[tactic(auto, unfolding(crate::specs::Subheaders::are_named, common::specs::Tests::every))]
+fn fields_of(subheader: SubheaderBytes, edges: EdgeRule) -> Result<ImageSubheader, Refusal>
+    ensures number { answer_number result ≡ ask 24 (are_named subheader) 0 }
+    ensures same { IfOk result (λ fields. fields ≡ fields_of subheader edges) }
 {
-    let pvtype = subheader.pvtype;
-    let pjust = [subheader.pjust];
-    let ic = subheader.ic;
-    let imode = [subheader.grid.imode];
-    if !PixelValueType::is_named(&pvtype) {
-        return false;
-    }
-    if !PixelJustification::is_named(&pjust) {
-        return false;
-    }
-    if !ImageCompression::is_named(&ic) {
-        return false;
-    }
-    mode_is_named(&imode)
-}
-
-// The fields that the bytes name, under an edge rule.
-fn fields_of(subheader: SubheaderBytes, edges: EdgeRule) -> ImageSubheader
-    ensures { result ≡ fields_of subheader edges }
-{
-    let pvtype = subheader.pvtype;
-    let pjust = [subheader.pjust];
-    let ic = subheader.ic;
-    let imode = [subheader.grid.imode];
-    let irep = subheader.irep;
-    let icat = subheader.icat;
-    ImageSubheader {
-        pvtype: PixelValueType::from_bytes(&pvtype),
-        irep,
-        icat,
+    Ok(ImageSubheader {
+        pvtype: named_value(&subheader.pvtype)?,
+        irep: subheader.irep,
+        icat: subheader.icat,
         abpp: subheader.abpp,
-        pjust: PixelJustification::from_bytes(&pjust),
-        ic: ImageCompression::from_bytes(&ic),
-        grid: grid_in(subheader.grid, mode_from_bytes(&imode), edges),
-    }
+        pjust: named_value(&[subheader.pjust])?,
+        ic: named_value(&subheader.ic)?,
+        grid: grid_in(subheader.grid, named_value(&[subheader.grid.imode])?, edges),
+    })
 }
 
 // Writes the three parts, under an edge rule.
+#[tactic(auto, unfolding(crate::specs::Subheaders::write_under, common::specs::Tests::pick))]
 fn write_under(
     subheader: SubheaderBytes,
     edges: EdgeRule,
     first: &mut [u8],
     second: &mut [u8],
     third: &mut [u8],
-) -> u32
-    ensures { parts_out result first.new second.new third.new
+) -> Result<(), Refusal>
+    ensures { parts_out (answer_number result) first.new second.new third.new
         ≡ write_under edges subheader first.old second.old third.old }
 {
-    if !are_named(subheader) {
-        return 24;
-    }
-    fields_of(subheader, edges).write(first, second, third)
+    fields_of(subheader, edges)?.write(first, second, third)
 }
 
 // Writes three parts of an image subheader; the edge rule is asked for and not written.
+#[tactic(auto, unfolding(crate::specs::Subheaders::write_bytes))]
 #[unsafe(no_mangle)]
 pub extern "C" fn gezdunar_subheader_write(
     subheader: SubheaderBytes,
@@ -196,7 +166,7 @@ pub extern "C" fn gezdunar_subheader_write(
         ≡ write_bytes subheader first.old second.old third.old }
 {
     match named_rule(subheader.grid.edges) {
-        NamedRule::Rule(edges) => write_under(subheader, edges, first, second, third),
-        NamedRule::NoRule => 99,
+        Some(edges) => answer_number(&write_under(subheader, edges, first, second, third)),
+        None => Refusal::NoMode.number(),
     }
 }

@@ -1,18 +1,12 @@
 // Writing across the boundary.
 ghost use Rattle.std.specs.Prelude.{◌≡◌};
 ghost use Rattle.calls.specs.Writes.{frame_out, number as plain_answer, start, write, skip, progress, finish};
-ghost use Rattle.gezdunar.specs.Boundary.{named_grid, on_grid};
+ghost use Rattle.gezdunar.specs.Boundary.{named_grid, on_known};
 
 use crate::GridNumbers;
-use crate::names::{NamedGrid, named_grid};
-use calls::Answer;
-
-// The answer where IMODE's byte is no mode.
-const NO_MODE: Answer = Answer {
-    number: 99,
-    first: 0,
-    second: 0,
-};
+use crate::names::named_grid;
+use calls::{Answer, Extent};
+use refusals::Refusal;
 
 // Starts a frame.
 #[unsafe(no_mangle)]
@@ -21,13 +15,13 @@ pub extern "C" fn gezdunar_start(
     marks: &mut [u64],
     numbers: GridNumbers,
 ) -> Answer
-    ensures { frame_out result image.new marks.new ≡ on_grid (named_grid numbers)
+    ensures { frame_out result image.new marks.new ≡ on_known (named_grid numbers)
         (λ g. start g image.old marks.old)
         (frame_out (plain_answer 99) image.old marks.old) }
 {
     match named_grid(numbers) {
-        NamedGrid::Known(grid) => writing::start(image, marks, grid),
-        NamedGrid::Unknown => NO_MODE,
+        Some(grid) => Answer::from(writing::start(image, marks, grid)),
+        None => Answer::from(Refusal::NoMode),
     }
 }
 
@@ -44,24 +38,21 @@ pub extern "C" fn gezdunar_encode_block(
     shape_columns: usize,
     data: &[u8],
 ) -> Answer
-    ensures { frame_out result image.new marks.new ≡ on_grid (named_grid numbers)
+    ensures { frame_out result image.new marks.new ≡ on_known (named_grid numbers)
         (λ g. write g image.old marks.old block_row block_col
         shape_bands shape_rows shape_columns «data».now)
         (frame_out (plain_answer 99) image.old marks.old) }
 {
+    let shape = Extent {
+        bands: shape_bands,
+        rows: shape_rows,
+        columns: shape_columns,
+    };
     match named_grid(numbers) {
-        NamedGrid::Known(grid) => writing::encode_block(
-            image,
-            marks,
-            grid,
-            block_row,
-            block_col,
-            shape_bands,
-            shape_rows,
-            shape_columns,
-            data,
-        ),
-        NamedGrid::Unknown => NO_MODE,
+        Some(grid) => Answer::from(writing::encode_block(
+            image, marks, grid, block_row, block_col, shape, data,
+        )),
+        None => Answer::from(Refusal::NoMode),
     }
 }
 
@@ -74,35 +65,35 @@ pub extern "C" fn gezdunar_skip_block(
     block_row: u32,
     block_col: u32,
 ) -> Answer
-    ensures { frame_out result image.now marks.new ≡ on_grid (named_grid numbers)
+    ensures { frame_out result image.now marks.new ≡ on_known (named_grid numbers)
         (λ g. skip g image.now marks.old block_row block_col)
         (frame_out (plain_answer 99) image.now marks.old) }
 {
     match named_grid(numbers) {
-        NamedGrid::Known(grid) => writing::skip_block(image, marks, grid, block_row, block_col),
-        NamedGrid::Unknown => NO_MODE,
+        Some(grid) => Answer::from(writing::skip_block(image, marks, grid, block_row, block_col)),
+        None => Answer::from(Refusal::NoMode),
     }
 }
 
 // How many blocks are marked.
 #[unsafe(no_mangle)]
 pub extern "C" fn gezdunar_progress(marks: &[u64], numbers: GridNumbers) -> Answer
-    ensures { result ≡ on_grid (named_grid numbers) (λ g. progress g marks.now) (plain_answer 99) }
+    ensures { result ≡ on_known (named_grid numbers) (λ g. progress g marks.now) (plain_answer 99) }
 {
     match named_grid(numbers) {
-        NamedGrid::Known(grid) => writing::progress(marks, grid),
-        NamedGrid::Unknown => NO_MODE,
+        Some(grid) => Answer::from(writing::progress(marks, grid)),
+        None => Answer::from(Refusal::NoMode),
     }
 }
 
 // Is every block marked?
 #[unsafe(no_mangle)]
 pub extern "C" fn gezdunar_finalize(image: &[u8], marks: &[u64], numbers: GridNumbers) -> Answer
-    ensures { result ≡ on_grid (named_grid numbers)
+    ensures { result ≡ on_known (named_grid numbers)
         (λ g. finish g image.now marks.now) (plain_answer 99) }
 {
     match named_grid(numbers) {
-        NamedGrid::Known(grid) => writing::finalize(image, marks, grid),
-        NamedGrid::Unknown => NO_MODE,
+        Some(grid) => Answer::from(writing::finalize(image, marks, grid)),
+        None => Answer::from(Refusal::NoMode),
     }
 }

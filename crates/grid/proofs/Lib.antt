@@ -5,3 +5,4 @@ pub mod Accepted
 pub mod BlockLayouts
 pub mod EdgeRules
 pub mod SamplePlaces
+pub mod Checked

@@ -1,21 +1,22 @@
 // Questions 1 to 4.
-ghost use Rattle.std.specs.Prelude.{◌≡◌, true};
+ghost use Rattle.std.specs.Prelude.{◌≡◌, true, IfOk};
+ghost use Rattle.refusals.specs.Refusals.{answer_number};
+ghost use Rattle.common.specs.Questions.{ask};
 ghost use Rattle.grid.specs.declared.EdgeRule.TheVariants.{Tight};
-ghost use Rattle.grid.specs.Check.{block_side, q1, q2, q3, q4, q6, q11, grid_number, Accepted, grid_of};
+ghost use Rattle.grid.specs.Check.{block_side, q1, q2, q3, q4, q6, q11, grid_number, grid_of};
+ghost use Rattle.grid.specs.Internal.Blocks.{IsBlock};
 
 use crate::widths::width_bytes;
-use crate::{EdgeRule, Grid};
+use crate::{AcceptedGrid, EdgeRule, Grid, GridBlock};
 use common::{ceil_div, within};
 use layout::InterleaveMode;
+use refusals::Refusal;
 
 // Is a side of a block within its limit, or the picture's own?
 fn block_side_fits(side: u32, picture: u32) -> bool
     ensures { result ≡ block_side side picture }
 {
-    if within(1, Grid::MAX_BLOCK_SIDE, side) {
-        return true;
-    }
-    side == picture
+    within(1, Grid::MAX_BLOCK_SIDE, side) || side == picture
 }
 
 impl Grid {
@@ -77,38 +78,26 @@ impl Grid {
     }
 
     // Question 1.
+    #[tactic(auto, unfolding(crate::specs::Check::q1, common::specs::Tests::every))]
     fn sides_fit(self) -> bool
         ensures { result ≡ q1 self }
     {
-        if !within(1, Self::MAX_PICTURE_SIDE, self.nrows) {
-            return false;
-        }
-        if !within(1, Self::MAX_PICTURE_SIDE, self.ncols) {
-            return false;
-        }
-        if !block_side_fits(self.nppbh, self.ncols) {
-            return false;
-        }
-        if !block_side_fits(self.nppbv, self.nrows) {
-            return false;
-        }
-        within(1, Self::MAX_BANDS, self.bands)
+        within(1, Self::MAX_PICTURE_SIDE, self.nrows)
+            && within(1, Self::MAX_PICTURE_SIDE, self.ncols)
+            && block_side_fits(self.nppbh, self.ncols)
+            && block_side_fits(self.nppbv, self.nrows)
+            && within(1, Self::MAX_BANDS, self.bands)
     }
 
     // Question 3.
+    #[tactic(auto, unfolding(crate::specs::Check::q3, common::specs::Tests::every))]
     fn blocks_fit(self) -> bool
         ensures { result ≡ q3 self }
     {
-        if self.nbpr != ceil_div(self.ncols, self.nppbh) {
-            return false;
-        }
-        if self.nbpc != ceil_div(self.nrows, self.nppbv) {
-            return false;
-        }
-        if Self::MAX_BLOCKS < self.nbpr {
-            return false;
-        }
-        self.nbpc <= Self::MAX_BLOCKS
+        self.nbpr == ceil_div(self.ncols, self.nppbh)
+            && self.nbpc == ceil_div(self.nrows, self.nppbv)
+            && self.nbpr <= Self::MAX_BLOCKS
+            && self.nbpc <= Self::MAX_BLOCKS
     }
 
     // Question 4. The product is held against a quotient, so that it cannot wrap.
@@ -124,39 +113,54 @@ impl Grid {
     }
 
     // Question 6: is the block inside the grid?
+    #[tactic(auto, unfolding(crate::specs::Check::q6, common::specs::Tests::every))]
     pub fn has_block(self, row: u32, column: u32) -> bool
         ensures { result ≡ q6 self row column }
     {
-        if row >= self.nbpc {
-            return false;
+        row < self.nbpc && column < self.nbpr
+    }
+
+    // Questions 1 to 4.
+    pub fn check(self) -> Result<AcceptedGrid, Refusal>
+        ensures number { answer_number result ≡ grid_number self }
+        ensures same { IfOk result (λ a. a.grid ≡ self) }
+    {
+        if !self.sides_fit() {
+            return Err(Refusal::Limits);
         }
-        column < self.nbpr
+        if width_bytes(self.nbpp) == 0 {
+            return Err(Refusal::Width);
+        }
+        if !self.blocks_fit() {
+            return Err(Refusal::BlockCounts);
+        }
+        if !self.image_fits() {
+            return Err(Refusal::TooLarge);
+        }
+        Ok(AcceptedGrid { grid: self })
+    }
+}
+
+impl AcceptedGrid {
+    // A block of the grid. Asks question 6.
+    pub fn block(self, row: u32, column: u32) -> Result<GridBlock, Refusal>
+        ensures number { answer_number result ≡ ask 6 (q6 self.grid row column) 0 }
+        ensures same { IfOk result (IsBlock self.grid row column) }
+    {
+        if !self.grid.has_block(row, column) {
+            return Err(Refusal::BlockOutsideGrid);
+        }
+        Ok(GridBlock {
+            grid: self,
+            row: row as usize,
+            column: column as usize,
+        })
     }
 
     // Question 11: do so many bytes hold the image?
     pub fn fits_in(self, bytes: usize) -> bool
-        requires { Accepted self }
-        ensures { result ≡ q11 self bytes }
+        ensures { result ≡ q11 self.grid bytes }
     {
         self.image_bytes() <= bytes
-    }
-
-    // The number of the first "no" of questions 1 to 4, or 0.
-    pub fn check(self) -> u32
-        ensures { result ≡ grid_number self }
-    {
-        if !self.sides_fit() {
-            return 1;
-        }
-        if width_bytes(self.nbpp) == 0 {
-            return 2;
-        }
-        if !self.blocks_fit() {
-            return 3;
-        }
-        if !self.image_fits() {
-            return 4;
-        }
-        0
     }
 }

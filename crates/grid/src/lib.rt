@@ -1,7 +1,8 @@
 // The grid of a picture: MIL-STD-2500C's fields, their limits, sizes, and where a sample lies.
 #![tactic(auto)]
 
-ghost use Rattle.std.specs.Prelude.{◌≡◌};
+ghost use Rattle.grid.specs.Check.{Accepted};
+ghost use Rattle.grid.specs.Layout.{Block};
 
 mod check;
 pub mod places;
@@ -9,9 +10,10 @@ mod sizes;
 mod widths;
 
 use layout::InterleaveMode;
+use std::fmt;
 
 // How the runs of an edge block lie where NBPP is no multiple of 8. Byte multiples lie the same under both rules.
-#[derive(Clone, Copy)]
+#[derive(Clone, Copy, Debug, PartialEq, Eq)]
 pub enum EdgeRule {
     // Its actual rows and columns, without gaps.
     Tight,
@@ -19,8 +21,21 @@ pub enum EdgeRule {
     Full,
 }
 
+impl EdgeRule {
+    pub const ALL: [EdgeRule; 2] = [Self::Tight, Self::Full];
+}
+
+impl fmt::Display for EdgeRule {
+    fn fmt<W: fmt::Write>(&self, f: &mut fmt::Formatter<W>) -> fmt::Result {
+        match self {
+            Self::Tight => write!(f, "tight"),
+            Self::Full => write!(f, "full"),
+        }
+    }
+}
+
 // What a call is told of a picture.
-#[derive(Clone, Copy)]
+#[derive(Clone, Copy, Debug, PartialEq, Eq)]
 pub struct Grid {
     // Rows and columns of the picture.
     pub nrows: u32,
@@ -36,4 +51,20 @@ pub struct Grid {
     // Blocks across and down.
     pub nbpr: u32,
     pub nbpc: u32,
+}
+
+// A grid that questions 1 to 4 accept.
+#[derive(Clone, Copy)]
+pub struct AcceptedGrid {
+    pub grid: Grid,
+    pub ghost accepted: { Accepted grid },
+}
+
+// A block of an accepted grid: its block row and block column.
+#[derive(Clone, Copy)]
+pub struct GridBlock {
+    pub grid: AcceptedGrid,
+    pub row: usize,
+    pub column: usize,
+    pub ghost inside: { Block grid.grid row column },
 }

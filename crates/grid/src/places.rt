@@ -1,12 +1,11 @@
 // Where a block and a sample lie in the image.
 ghost use Rattle.std.specs.Prelude.{◌≡◌};
-ghost use Rattle.grid.specs.Check.{Accepted};
-ghost use Rattle.grid.specs.Layout.{held as held_by, place, block_end, Block, Sample};
+ghost use Rattle.grid.specs.Layout.{held as held_by, place, block_end, Sample};
 ghost use Rattle.grid.specs.Internal.BlockLayouts.{layout_of, whole_span};
 
-use crate::{EdgeRule, Grid};
+use crate::{EdgeRule, GridBlock};
 use common::pick;
-use layout::{BlockLayout, bands_apart};
+use layout::BlockLayout;
 
 // A part of the image, in bytes.
 #[derive(Clone, Copy)]
@@ -26,26 +25,27 @@ fn held(edges: EdgeRule, actual: usize, nominal: usize) -> usize
     }
 }
 
-impl Grid {
-    // The layout of block (row, column) of the image.
-    pub fn block_layout(self, row: usize, column: usize) -> BlockLayout
-        requires accepted { Accepted self }
-        requires block { Block self row column }
-        ensures { result ≡ layout_of self row column }
+impl GridBlock {
+    // The layout of the block in the image.
+    pub fn layout(self) -> BlockLayout
+        ensures { result ≡ layout_of self.grid.grid self.row self.column }
     {
-        let t = self.band_bytes();
-        let mode = self.imode;
-        let edges = self.edges;
-        let apart = bands_apart(mode);
-        let whole = self.is_byte_multiple();
-        let rows = self.actual_rows(row);
-        let columns = self.actual_columns(column);
-        let first = self.block_index(row, column) * pick(apart, t, self.block_bytes());
-        let next = pick(apart, self.blocks() * t, t);
-        let block_rows = self.nppbv as usize;
-        let block_columns = self.nppbh as usize;
-        let run_rows = pick(whole, block_rows, held(edges, rows, block_rows));
-        let run_columns = pick(whole, block_columns, held(edges, columns, block_columns));
+        let grid = self.grid.grid;
+        let t = self.grid.band_bytes();
+        let apart = grid.imode.bands_apart();
+        let whole = grid.is_byte_multiple();
+        let rows = self.rows();
+        let columns = self.columns();
+        let first = self.index() * pick(apart, t, self.grid.block_bytes());
+        let next = pick(apart, self.grid.blocks() * t, t);
+        let block_rows = grid.nppbv as usize;
+        let block_columns = grid.nppbh as usize;
+        let run_rows = pick(whole, block_rows, held(grid.edges, rows, block_rows));
+        let run_columns = pick(
+            whole,
+            block_columns,
+            held(grid.edges, columns, block_columns),
+        );
         BlockLayout {
             first,
             apart: next,
@@ -54,41 +54,35 @@ impl Grid {
             columns,
             run_rows,
             run_columns,
-            mode,
-            bands: self.bands,
-            nbpp: self.nbpp,
+            mode: grid.imode,
+            bands: grid.bands,
+            nbpp: grid.nbpp,
         }
     }
 
-    // The first bit of sample (b, r, c) of a block, counted from the image's first byte on, high bit first.
-    pub fn sample_place(self, row: usize, column: usize, b: usize, r: usize, c: usize) -> usize
-        requires accepted { Accepted self }
-        requires sample { Sample self row column b r c }
-        ensures { result ≡ place self row column b r c }
+    // The first bit of sample (b, r, c), counted from the image's first byte on, high bit first.
+    pub fn sample_place(self, b: usize, r: usize, c: usize) -> usize
+        requires { Sample self.grid.grid self.row self.column b r c }
+        ensures { result ≡ place self.grid.grid self.row self.column b r c }
     {
-        self.block_layout(row, column).sample_place(b, r, c)
+        self.layout().sample_place(b, r, c)
     }
 
-    // Question 7: the end of a block's last actual sample, or at other widths of its last run.
-    pub fn block_end(self, row: usize, column: usize) -> usize
-        requires accepted { Accepted self }
-        requires block { Block self row column }
-        ensures { result ≡ block_end self row column }
+    // Question 7: the end of the last actual sample, or at other widths of the last run.
+    pub fn end(self) -> usize
+        ensures { result ≡ block_end self.grid.grid self.row self.column }
     {
-        self.block_layout(row, column).end()
+        self.layout().end()
     }
 
     // The whole nominal block in the image; nothing, at 0, in S, where its bands lie apart.
-    pub fn whole_block(self, row: usize, column: usize) -> Span
-        requires accepted { Accepted self }
-        requires block { Block self row column }
-        ensures { result ≡ whole_span self row column }
+    pub fn whole(self) -> Span
+        ensures { result ≡ whole_span self.grid.grid self.row self.column }
     {
-        let mode = self.imode;
-        let apart = bands_apart(mode);
-        let size = self.block_bytes();
+        let apart = self.grid.grid.imode.bands_apart();
+        let size = self.grid.block_bytes();
         Span {
-            start: pick(apart, 0, self.block_index(row, column) * size),
+            start: pick(apart, 0, self.index() * size),
             length: pick(apart, 0, size),
         }
     }

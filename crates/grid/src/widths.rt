@@ -9,7 +9,7 @@ const WIDTHS: [u8; 65] = [
     8,
 ];
 
-// Bytes of a sample of `nbpp` bits, zero where the width is refused.
+// Bytes of a sample of `nbpp` bits, zero where the width is refused, as document 01's table has it.
 pub fn width_bytes(nbpp: u32) -> u32
     ensures { result ≡ width_bytes nbpp }
 {

@@ -1,5 +1,6 @@
 -- The answers of a reordering, refused or accepted, and orders that are the same.
 -- Assumes nothing.
+use Rattle.std.specs.Prelude.{Ok}
 use Prim.Native.Nat.{ℕ, ◌+◌, ◌*◌}
 use mathlib.Core.Path.{◌≡◌, refl, sym, ap, ◌∙◌}
 use mathlib.Core.List.{List, ◌++◌, append-nil}
@@ -13,23 +14,35 @@ use Rattle.common.specs.Over.{over}
 use Rattle.bits.specs.Values.{values}
 use Rattle.bits.proofs.Values.{length-values}
 use Rattle.layout.specs.declared.InterleaveMode.{InterleaveMode}
-use Rattle.layout.specs.Bands.{Bands, band_count}
-use Rattle.interleave.specs.declared.Reordered.{Reordered}
-use Rattle.interleave.specs.Interleave.{reorder_number, reordered_with, refusal, reordered_bytes, reorder}
-use Rattle.interleave.proofs.KnownSamples.{whole-from-samples}
+use Rattle.layout.specs.Bands.{Bands}
+use Rattle.refusals.specs.declared.Refusal.{Refusal}
+use Rattle.refusals.specs.Refusals.{number_of}
+use Rattle.refusals.proofs.Numbers.{number-some}
+use Rattle.interleave.specs.declared.Output.{Output}
+use Rattle.interleave.specs.Interleave.{reorder_number, output_of, reordered_of, reordered_with, refusal}
+use Rattle.interleave.specs.Interleave.{reordered_bytes, reorder}
+use Rattle.interleave.proofs.Accepted.{accepted, no_output}
+use Rattle.interleave.proofs.KnownSamples.{whole-from-samples, no-samples}
 
 module _ (from to : InterleaveMode) (bs : Bands) (rows columns bands s : ℕ) (dat out : List ℕ) where
-  pub reorder-refused : (k : ℕ) {r : Reordered} → r ≡ refusal k → k ≡ reorder_number bs rows columns bands s (length dat) (length out) → (k ≡ 0 → ⊥)
-      → reordered_with r out ≡ reorder from to bs rows columns bands s dat out
+  pub reorder-refused : (reason : Refusal)
+      → number_of reason ≡ reorder_number bs rows columns bands s (length dat) (length out)
+      → reordered_with (refusal (number_of reason)) out ≡ reorder from to bs rows columns bands s dat out
   unfolding reorder
-  reorder-refused k er e h = ap (λ (r : Reordered). reordered_with r out) er ∙ refused-by _ (λ n. reordered_with (refusal n) out) e h
+  reorder-refused reason e = refused-by _ (λ n. reordered_with (refusal n) out) e (number-some reason)
 
-  pub reorder-accepted : (k n m : ℕ) {zs : List ℕ} → k ≡ reorder_number bs rows columns bands s (length dat) (length out) → k ≡ 0
-      → n ≡ band_count bands bs → m ≡ band_count bands bs * rows * columns * s
-      → zs ≡ over out 0 (reordered_bytes from to bs rows columns bands s dat)
-      → reordered_with (record { number = 0; bands = n; bytes = m }) zs ≡ reorder from to bs rows columns bands s dat out
+  pub reorder-accepted : {o : Output} {zs : List ℕ}
+      → 0 ≡ reorder_number bs rows columns bands s (length dat) (length out)
+      → o ≡ output_of bs rows columns bands s → zs ≡ over out 0 (reordered_bytes from to bs rows columns bands s dat)
+      → reordered_with (reordered_of (Ok o)) zs ≡ reorder from to bs rows columns bands s dat out
   unfolding reorder outcome
-  reorder-accepted k n m e z en em ez = rw (en, em, ez, ← e, z)
+  reorder-accepted e f z = rw (f, ← e, z)
+
+  -- where there are no samples the output stays
+  pub reorder-empty : {o : Output} → 0 ≡ reorder_number bs rows columns bands s (length dat) (length out)
+      → o ≡ output_of bs rows columns bands s → o.bytes ≡ 0
+      → reordered_with (reordered_of (Ok o)) out ≡ reorder from to bs rows columns bands s dat out
+  reorder-empty e f z = reorder-accepted e f (no-samples _ _ _ out (no_output (accepted e) f z))
 
 -- data is its samples
 pub samples_of : (s n : ℕ) (dat : List ℕ) → Bytes dat → length dat ≡ n * s → values (λ k. be_at dat (k * s) s) s n ≡ dat

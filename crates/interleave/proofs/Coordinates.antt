@@ -1,16 +1,12 @@
 -- The band, row and column of a place in the order of a mode, and the steps between neighbours in that order.
 -- Assumes nothing.
-use Prim.Native.Nat.{ℕ, zero, suc, ◌+◌, ◌*◌, ◌/◌, ◌%◌, ◌≤◌, ◌<◌}
+use Prim.Native.Nat.{ℕ, zero, suc, ◌+◌, ◌*◌, ◌/◌, ◌%◌, ◌<◌}
 use mathlib.Core.Path.{◌≡◌}
-use mathlib.Core.Bool.{false}
-use lib.Dec.{eqb}
-use borrow.Author.Tests.{eqb-false}
 use native.Mathlib.Omega.{arith}
 use native.Mathlib.Nat.{div-add-mod', mod-lt, div-lt_iff_lt-mul}
 use Rattle.layout.specs.declared.InterleaveMode.{InterleaveMode}
 use Rattle.layout.specs.declared.InterleaveMode.TheVariants.{B, P, R, S}
 use Rattle.layout.specs.Order.{ordinal}
-use Rattle.common.proofs.Arith.{prod_le}
 use Rattle.layout.proofs.Order.{Same3, ordinal_lt, ordinal_inj}
 use Rattle.interleave.specs.Interleave.{band_of, row_of, column_of}
 
@@ -25,8 +21,11 @@ positive (suc a) (suc b) zero n h = absurd (omega arith)
 positive (suc a) (suc b) (suc c) n h = (omega arith, omega arith, omega arith)
 
 -- a product that is not 0
-pub not_empty : (a b c : ℕ) → eqb (a * b * c) 0 ≡ false → Positive a b c
-not_empty a b c e = positive a b c 0 (let h = eqb-false (a * b * c) 0 e in omega arith)
+pub not_empty : (a b c s : ℕ) → (a * b * c * s ≡ 0 → ⊥) → Positive a b c
+not_empty zero b c s ne = absurd (ne (omega arith))
+not_empty (suc a) zero c s ne = absurd (ne (omega arith))
+not_empty (suc a) (suc b) zero s ne = absurd (ne (omega arith))
+not_empty (suc a) (suc b) (suc c) s ne = (omega arith, omega arith, omega arith)
 
 -- the three digits of a number in a mixed radix
 digits : (k q p x : ℕ) → x < k * q * p → (x / p / q < k) × (x / p % q < q) × (x % p < p) × ((x / p / q * q + x / p % q) * p + x % p ≡ x)
@@ -61,7 +60,3 @@ pub coordinates_of : (m : InterleaveMode) (bands rows columns b r c : ℕ) → b
 coordinates_of m bands rows columns b r c hb hr hc =
     let a = coordinates m bands rows columns (ordinal m bands rows columns b r c) (omega (arith, ordinal_lt m bands rows columns b r c hb hr hc)) in
     ordinal_inj m bands rows columns _ _ _ b r c a.in_b a.in_r a.in_c hb hr hc a.there
-
--- a part is not larger than the whole
-pub times-le : (k x : ℕ) → 0 < k → x ≤ k * x
-times-le k x h = omega (arith, prod_le 1 x k x h (omega arith))

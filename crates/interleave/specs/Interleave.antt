@@ -1,6 +1,6 @@
 -- Reorderings of the samples of a block between the orders of the modes.
 -- Assumes nothing.
-use Rattle.std.specs.Prelude.{ℕ, ◌*◌, ◌/◌, ◌%◌, true, List, [], leb, eqb, length}
+use Rattle.std.specs.Prelude.{ℕ, ◌*◌, ◌/◌, ◌%◌, true, List, [], Result, Ok, Err, leb, eqb, length}
 use Rattle.bits.specs.Bits.{be_at}
 use Rattle.common.specs.Over.{over}
 use Rattle.layout.specs.declared.InterleaveMode.{InterleaveMode}
@@ -10,6 +10,9 @@ use Rattle.common.specs.Tests.{within}
 use Rattle.layout.specs.Order.{ordinal}
 use Rattle.layout.specs.Bands.{Bands, bands_of, band_count, band_at, q8, q9}
 use Rattle.bits.specs.Values.{values}
+use Rattle.refusals.specs.declared.Refusal.{Refusal}
+use Rattle.refusals.specs.Refusals.{number_of}
+use Rattle.interleave.specs.declared.Output.{Output}
 use Rattle.interleave.specs.declared.Reordered.{Reordered}
 
 -- the band, the row and the column of the sample that stands at place n in the order of a mode
@@ -58,6 +61,16 @@ reordered_with answer out = record { answer = answer; out = out }
 
 abbrev pub refusal : ℕ → Reordered
 refusal n = record { number = n; bands = 0; bytes = 0 }
+
+-- a result's number, and what it filled
+abbrev pub reordered_of : Result Output Refusal → Reordered
+reordered_of (Ok output) = record { number = 0; bands = output.bands; bytes = output.bytes }
+reordered_of (Err reason) = refusal (number_of reason)
+
+-- what a reordering of the bands asked for fills
+abbrev pub output_of : Bands → ℕ → ℕ → ℕ → ℕ → Output
+output_of bs rows columns bands s =
+    record { bands = band_count bands bs; bytes = band_count bands bs * rows * columns * s }
 
 -- the bands asked for, in the order of `to`, in samples of s bytes
 abbrev pub reordered_bytes : InterleaveMode → InterleaveMode → Bands → ℕ → ℕ → ℕ → ℕ → List ℕ → List ℕ

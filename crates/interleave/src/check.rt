@@ -1,14 +1,17 @@
-// The questions of a reordering.
-ghost use Rattle.std.specs.Prelude.{◌≡◌, ◌*◌, ◌^◌, ◌<◌, leb, eqb};
-ghost use Rattle.layout.specs.Bands.{bands_of};
-ghost use Rattle.interleave.specs.Interleave.{reorder_number};
+// The counts of a block's samples, and the questions of a reordering.
+ghost use Rattle.std.specs.Prelude.{◌≡◌, IfOk};
+ghost use Rattle.refusals.specs.Refusals.{answer_number};
+ghost use Rattle.layout.specs.Bands.{bands_in};
+ghost use Rattle.interleave.specs.Interleave.{output_of, reorder_number};
 
+use crate::Output;
 use common::product_fits;
 use grid::Grid;
 use layout::bands::{band_count, bands_below};
+use refusals::Refusal;
 
-// The sides of a block, its bands, and the bytes of a sample.
-#[derive(Clone, Copy)]
+// The rows, columns and bands of a block, and the bytes of a sample.
+#[derive(Clone, Copy, Debug, PartialEq, Eq)]
 pub struct Counts {
     pub rows: u32,
     pub columns: u32,
@@ -16,56 +19,49 @@ pub struct Counts {
     pub size: usize,
 }
 
-// Have `count` bands no samples?
-pub fn is_empty(count: usize, shape: Counts) -> bool
-    ensures { result ≡ eqb (count * shape.rows * shape.columns) 0 }
-{
-    if count == 0 {
-        return true;
+impl Counts {
+    pub fn new(rows: u32, columns: u32, bands: u32, size: usize) -> Self
+        ensures { result ≡ record { rows = rows; columns = columns; bands = bands; size = size } }
+    {
+        Self {
+            rows,
+            columns,
+            bands,
+            size,
+        }
     }
-    shape.rows as usize * shape.columns as usize == 0
-}
 
-// The bytes of `count` bands. No bands are no bytes, however large a band is.
-pub fn output_bytes(count: usize, shape: Counts) -> usize
-    requires { count * shape.rows * shape.columns * shape.size < 2 ^ 64 }
-    ensures { result ≡ count * shape.rows * shape.columns * shape.size }
-{
-    if count == 0 {
-        return 0;
+    // The questions of a reordering, for so many bytes of data and of output, and what it fills where they accept it.
+    pub fn check(self, data: usize, asked: Option<&[u32]>, room: usize) -> Result<Output, Refusal>
+        ensures number { answer_number result ≡ reorder_number (bands_in asked.entry) self.rows self.columns self.bands
+            self.size «data» room }
+        ensures filled { IfOk result (λ o. o ≡ output_of (bands_in asked.entry) self.rows self.columns self.bands
+            self.size) }
+    {
+        let size = self.size;
+        if size < 1 || 8 < size {
+            return Err(Refusal::Width);
+        }
+        let pixels = self.rows as usize * self.columns as usize;
+        let pixel = self.bands as usize * size;
+        if !product_fits(pixels, pixel, Grid::MAX_IMAGE_BYTES as usize) {
+            return Err(Refusal::TooLarge);
+        }
+        if data != pixels * pixel {
+            return Err(Refusal::DataLength);
+        }
+        if !bands_below(self.bands, asked) {
+            return Err(Refusal::NoSuchBand);
+        }
+        let bands = band_count(self.bands, asked);
+        // where no band is asked for, the product need not fit
+        let band = if bands == 0 { 0 } else { pixels * size };
+        if !product_fits(bands, band, room) {
+            return Err(Refusal::OutputTooShort);
+        }
+        Ok(Output {
+            bands,
+            bytes: bands * band,
+        })
     }
-    count * (shape.rows as usize * shape.columns as usize * shape.size)
-}
-
-// The number of the first "no" of a reordering's questions, or 0.
-pub fn reorder_number(shape: Counts, data: usize, all: bool, list: &[u32], room: usize) -> u32
-    ensures { result ≡ reorder_number (bands_of all list.now) shape.rows shape.columns shape.bands
-        shape.size «data» room }
-{
-    let size = shape.size;
-    if size < 1 {
-        return 2;
-    }
-    if 8 < size {
-        return 2;
-    }
-    let pixels = shape.rows as usize * shape.columns as usize;
-    let pixel = shape.bands as usize * size;
-    if !product_fits(pixels, pixel, Grid::MAX_IMAGE_BYTES as usize) {
-        return 4;
-    }
-    if data != pixels * pixel {
-        return 14;
-    }
-    if !bands_below(shape.bands, all, list) {
-        return 8;
-    }
-    let count = band_count(shape.bands, all, list);
-    if count == 0 {
-        return 0;
-    }
-    if !product_fits(count, pixels * size, room) {
-        return 9;
-    }
-    0
 }

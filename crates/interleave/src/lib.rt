@@ -3,19 +3,26 @@
 
 ghost use Rattle.std.specs.Prelude.{◌≡◌};
 ghost use Rattle.layout.specs.declared.InterleaveMode.TheVariants.{P, S};
-ghost use Rattle.layout.specs.Bands.{bands_of};
-ghost use Rattle.interleave.specs.Interleave.{every_band, refusal, reorder, reordered_with};
+ghost use Rattle.layout.specs.Bands.{bands_in};
+ghost use Rattle.interleave.specs.Interleave.{every_band, reorder, reordered_of, reordered_with};
 
 use layout::InterleaveMode;
-use layout::bands::band_count;
+use refusals::Refusal;
 
 mod check;
 mod planes;
 
-use crate::check::{Counts, output_bytes, reorder_number};
+use crate::check::Counts;
 use crate::planes::{from_planes, to_planes};
 
-// What a reordering answers: the number, the bands of the output and its bytes; zeros beside a refusal.
+// What a reordering filled: the bands of the output and its bytes.
+#[derive(Clone, Copy, Debug, PartialEq, Eq)]
+pub struct Output {
+    pub bands: usize,
+    pub bytes: usize,
+}
+
+// What C is answered by a reordering: the number, and what it filled; zeros beside a refusal.
 #[repr(C)]
 #[derive(Clone, Copy)]
 pub struct Reordered {
@@ -24,14 +31,22 @@ pub struct Reordered {
     pub bytes: usize,
 }
 
-// The answer of a refusal.
-fn refused(number: u32) -> Reordered
-    ensures { result ≡ refusal number }
-{
-    Reordered {
-        number,
-        bands: 0,
-        bytes: 0,
+impl From<Result<Output, Refusal>> for Reordered {
+    ghost from_gives = { λ done answer. answer ≡ reordered_of done };
+
+    fn from(done: Result<Output, Refusal>) -> Self {
+        match done {
+            Ok(output) => Reordered {
+                number: 0,
+                bands: output.bands,
+                bytes: output.bytes,
+            },
+            Err(refusal) => Reordered {
+                number: refusal.number(),
+                bands: 0,
+                bytes: 0,
+            },
+        }
     }
 }
 
@@ -44,28 +59,13 @@ pub fn to_band_sequential(
     nbands: u32,
     bytes_per_pixel: usize,
     out: &mut [u8],
-) -> Reordered
-    ensures { reordered_with result out.new
+) -> Result<Output, Refusal>
+    ensures { reordered_with (reordered_of result) out.new
         ≡ reorder from_mode S every_band nrows ncols nbands bytes_per_pixel
         «data».now out.old }
 {
-    let list: [u32; 0] = [];
-    let shape = Counts {
-        rows: nrows,
-        columns: ncols,
-        bands: nbands,
-        size: bytes_per_pixel,
-    };
-    let number = reorder_number(shape, data.len(), true, &list, out.len());
-    if number != 0 {
-        return refused(number);
-    }
-    to_planes(data, from_mode, shape, true, &list, out);
-    Reordered {
-        number: 0,
-        bands: nbands as usize,
-        bytes: data.len(),
-    }
+    let counts = Counts::new(nrows, ncols, nbands, bytes_per_pixel);
+    to_planes(data, from_mode, counts, None, out)
 }
 
 // The samples of `data`, which stand in band-sequential order, in the order of a mode.
@@ -77,28 +77,13 @@ pub fn from_band_sequential(
     nbands: u32,
     bytes_per_pixel: usize,
     out: &mut [u8],
-) -> Reordered
-    ensures { reordered_with result out.new
+) -> Result<Output, Refusal>
+    ensures { reordered_with (reordered_of result) out.new
         ≡ reorder S to_mode every_band nrows ncols nbands bytes_per_pixel
         «data».now out.old }
 {
-    let list: [u32; 0] = [];
-    let shape = Counts {
-        rows: nrows,
-        columns: ncols,
-        bands: nbands,
-        size: bytes_per_pixel,
-    };
-    let number = reorder_number(shape, data.len(), true, &list, out.len());
-    if number != 0 {
-        return refused(number);
-    }
-    from_planes(data, to_mode, shape, out);
-    Reordered {
-        number: 0,
-        bands: nbands as usize,
-        bytes: data.len(),
-    }
+    let counts = Counts::new(nrows, ncols, nbands, bytes_per_pixel);
+    from_planes(data, to_mode, counts, out)
 }
 
 // The bands asked for of `data`, which stands in the order of P, in band-sequential order.
@@ -108,29 +93,13 @@ pub fn fused_bip_to_bsq(
     ncols: u32,
     nbands: u32,
     bytes_per_pixel: usize,
-    all: bool,
-    bands: &[u32],
+    asked: Option<&[u32]>,
     out: &mut [u8],
-) -> Reordered
-    ensures { reordered_with result out.new
-        ≡ reorder P S (bands_of all bands.now) nrows ncols nbands bytes_per_pixel
+) -> Result<Output, Refusal>
+    ensures { reordered_with (reordered_of result) out.new
+        ≡ reorder P S (bands_in asked.entry) nrows ncols nbands bytes_per_pixel
         «data».now out.old }
 {
-    let shape = Counts {
-        rows: nrows,
-        columns: ncols,
-        bands: nbands,
-        size: bytes_per_pixel,
-    };
-    let number = reorder_number(shape, data.len(), all, bands, out.len());
-    if number != 0 {
-        return refused(number);
-    }
-    to_planes(data, InterleaveMode::P, shape, all, bands, out);
-    let count = band_count(nbands, all, bands);
-    Reordered {
-        number: 0,
-        bands: count,
-        bytes: output_bytes(count, shape),
-    }
+    let counts = Counts::new(nrows, ncols, nbands, bytes_per_pixel);
+    to_planes(data, InterleaveMode::P, counts, asked, out)
 }

@@ -1,6 +1,7 @@
 -- Bands asked for.
 -- Assumes nothing.
-use Rattle.std.specs.Prelude.{ℕ, ◌*◌, Bool, true, List, leb, ltb, length, get_or}
+use Rattle.std.specs.Prelude.{ℕ, ◌*◌, Bool, true, false, List, [], Option, Some, None, leb, ltb, length, get_or}
+use Rattle.std.specs.Borrow.{Bor}
 use Rattle.common.specs.Tests.{pick, all_below}
 
 -- all bands, which looks at no list, or those of a list, in its order; an empty list asks for none
@@ -10,6 +11,11 @@ pub record Bands : Type 0 where
 
 abbrev pub bands_of : Bool → List ℕ → Bands
 bands_of all list = record { all = all; list = list }
+
+-- a caller's answer: no list is all bands
+abbrev pub bands_in : Option (Bor (List ℕ)) → Bands
+bands_in None = bands_of true []
+bands_in (Some list) = bands_of false list.now
 
 -- how many of so many bands are asked for
 unfoldable pub band_count : ℕ → Bands → ℕ

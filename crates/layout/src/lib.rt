@@ -8,10 +8,12 @@ ghost use Rattle.layout.specs.Internal.Layout.{sample_bytes, byte_multiple, ordi
 ghost use Rattle.layout.specs.Internal.Layout.{place, block_end, Sample, Sound};
 ghost use Rattle.layout.specs.Internal.Spacing.{has_strides, strides_of, column_steps, rest_of_run};
 
+use std::fmt;
+
 pub mod bands;
 
 // IMODE: how the bands of a picture are interleaved.
-#[derive(Clone, Copy)]
+#[derive(Clone, Copy, Debug, PartialEq, Eq)]
 pub enum InterleaveMode {
     // Band interleaved by block.
     B,
@@ -23,19 +25,25 @@ pub enum InterleaveMode {
     S,
 }
 
-// Do the bands of a block lie apart, each among the same band of all blocks?
-pub fn bands_apart(mode: InterleaveMode) -> bool
-    ensures { result ≡ bands_apart mode }
-{
-    match mode {
-        InterleaveMode::B => false,
-        InterleaveMode::P => false,
-        InterleaveMode::R => false,
-        InterleaveMode::S => true,
+impl InterleaveMode {
+    pub const ALL: [InterleaveMode; 4] = [Self::B, Self::P, Self::R, Self::S];
+
+    // Do the bands of a block lie apart, each among the same band of all blocks?
+    pub fn bands_apart(self) -> bool
+        ensures { result ≡ bands_apart self }
+    {
+        matches!(self, Self::S)
     }
 }
 
-// The samples of a block stand in the order of the mode and are cut into as many runs as bands.
+impl fmt::Display for InterleaveMode {
+    fn fmt<W: fmt::Write>(&self, f: &mut fmt::Formatter<W>) -> fmt::Result {
+        write!(f, "{self:?}")
+    }
+}
+
+// The samples of a block stand in the order of the mode and are cut into as many runs as bands. Soundness is no fact of
+// the type, which would ask it of callers of `is_byte_multiple`; a sample is its b, r and c, as in document 01.
 #[derive(Clone, Copy)]
 pub struct BlockLayout {
     // The byte of run 0, the bytes from a run to the next, and the bytes of a run.
@@ -95,8 +103,7 @@ impl BlockLayout {
         let bands = self.bands as usize;
         let rows = self.run_rows;
         let columns = self.run_columns;
-        let m = self.mode;
-        match m {
+        match self.mode {
             InterleaveMode::P => times_plus(times_plus(r, columns, c), bands, b),
             InterleaveMode::R => times_plus(times_plus(r, bands, b), columns, c),
             _ => times_plus(times_plus(b, rows, r), columns, c),
@@ -126,8 +133,7 @@ impl BlockLayout {
         if 8 * self.apart == self.run_rows * self.run_columns * bits {
             return true;
         }
-        let m = self.mode;
-        match m {
+        match self.mode {
             InterleaveMode::P => false,
             InterleaveMode::R => false,
             _ => true,
@@ -142,8 +148,7 @@ impl BlockLayout {
         let width = self.nbpp as usize;
         let line = self.run_columns * width;
         let pixel = self.bands as usize * width;
-        let m = self.mode;
-        match m {
+        match self.mode {
             InterleaveMode::B => Strides {
                 band: 8 * self.apart,
                 row: line,
@@ -171,8 +176,7 @@ impl BlockLayout {
     fn column_steps(self) -> usize
         ensures { result ≡ column_steps self.mode self }
     {
-        let m = self.mode;
-        match m {
+        match self.mode {
             InterleaveMode::P => self.bands as usize,
             _ => 1,
         }

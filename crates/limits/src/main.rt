@@ -3,18 +3,9 @@
 
 use grid::{EdgeRule, Grid};
 use layout::InterleaveMode;
-
-const OUT: i32 = 1;
-
-fn number(label: &[u8], n: u64) {
-    io::write_all(OUT, label);
-    io::print_decimal(OUT, n);
-    io::write_all(OUT, b"\n");
-}
-
-fn answer(label: &[u8], g: Grid) {
-    number(label, g.check() as u64);
-}
+use refusals::answer_number;
+use std::fmt::Display;
+use std::io;
 
 // The limits are the same under both edge rules.
 fn grid_of(
@@ -43,213 +34,222 @@ fn figure(nbpp: u32) -> Grid {
     grid_of(3, 5, 2, nbpp, InterleaveMode::B, 4, 2)
 }
 
-// The same grid with other counts of blocks.
-fn with_blocks(g: Grid, nbpr: u32, nbpc: u32) -> Grid {
-    let imode = g.imode;
-    let edges = g.edges;
-    Grid {
-        nrows: g.nrows,
-        ncols: g.ncols,
-        bands: g.bands,
-        nbpp: g.nbpp,
-        imode,
-        edges,
-        nppbh: g.nppbh,
-        nppbv: g.nppbv,
-        nbpr,
-        nbpc,
-    }
-}
-
 // One row of blocks of one pixel, with its count of blocks given.
 fn across(nbpr: u32, ncols: u32) -> Grid {
-    with_blocks(grid_of(1, ncols, 1, 8, InterleaveMode::P, 1, 1), nbpr, 1)
+    let row = grid_of(1, ncols, 1, 8, InterleaveMode::P, 1, 1);
+    Grid {
+        nbpr,
+        nbpc: 1,
+        ..row
+    }
 }
 
 // One column of blocks of one pixel, with its count of blocks given.
 fn down(nbpc: u32, nrows: u32) -> Grid {
-    with_blocks(grid_of(nrows, 1, 1, 8, InterleaveMode::R, 1, 1), 1, nbpc)
-}
-
-fn figures() {
-    let g = figure(8);
-    if g.check() != 0 {
-        io::write_all(OUT, b"the figures' grid is refused\n");
-        return;
+    let column = grid_of(nrows, 1, 1, 8, InterleaveMode::R, 1, 1);
+    Grid {
+        nbpr: 1,
+        nbpc,
+        ..column
     }
-    number(b"NBPR ", g.nbpr as u64);
-    number(b"NBPC ", g.nbpc as u64);
-    number(b"t ", g.band_bytes() as u64);
-    number(b"image ", g.image_bytes() as u64);
-    answer(b"NBPP 16: ", figure(16));
-    answer(b"NBPP 24: ", figure(24));
-    answer(b"NBPP 64: ", figure(64));
-    answer(b"NBPP 17: ", figure(17));
-    answer(b"NBPP 23: ", figure(23));
-    answer(b"NBPP 33: ", figure(33));
-    answer(b"NBPP 65: ", figure(65));
 }
 
-fn widths() {
-    answer(b"NBPP 0: ", figure(0));
-    answer(b"NBPP 1: ", figure(1));
-    answer(b"NBPP 39: ", figure(39));
-    answer(b"NBPP 40: ", figure(40));
-    answer(b"NBPP 63: ", figure(63));
-    answer(b"NBPP 4294967295: ", figure(4_294_967_295));
+fn answer(rt: &impl Print, label: impl Display + Drop, grid: Grid) -> io::Result<()> {
+    println!(rt; "{label}: {}", answer_number(&grid.check()))
 }
 
-fn sides() {
+fn answer_widths(rt: &impl Print, widths: &[u32]) -> io::Result<()> {
+    for nbpp in widths {
+        answer(rt, format_args!("NBPP {nbpp}"), figure(*nbpp))?;
+    }
+    Ok(())
+}
+
+fn figures(rt: &impl Print) -> io::Result<()> {
+    let Ok(g) = figure(8).check() else {
+        return println!(rt; "the figures' grid is refused");
+    };
+    println!(rt; "NBPR {}", g.grid.nbpr)?;
+    println!(rt; "NBPC {}", g.grid.nbpc)?;
+    println!(rt; "t {}", g.band_bytes())?;
+    println!(rt; "image {}", g.image_bytes())?;
+    answer_widths(rt, &[16, 24, 64, 17, 23, 33, 65])
+}
+
+fn sides(rt: &impl Print) -> io::Result<()> {
     let b = InterleaveMode::B;
-    answer(b"NROWS 0: ", grid_of(0, 5, 1, 8, b, 4, 2));
+    answer(rt, "NROWS 0", grid_of(0, 5, 1, 8, b, 4, 2))?;
     answer(
-        b"NROWS 99999999: ",
+        rt,
+        "NROWS 99999999",
         grid_of(99_999_999, 1, 1, 1, b, 1, 8_192),
-    );
+    )?;
     answer(
-        b"NROWS 100000000: ",
+        rt,
+        "NROWS 100000000",
         grid_of(100_000_000, 1, 1, 1, b, 1, 8_192),
-    );
+    )?;
     answer(
-        b"NCOLS 4294967295: ",
+        rt,
+        "NCOLS 4294967295",
         grid_of(1, 4_294_967_295, 1, 1, b, 8_192, 1),
-    );
-    answer(b"NPPBH 0: ", grid_of(3, 5, 1, 8, b, 0, 2));
-    answer(b"NPPBH 8192: ", grid_of(3, 5, 1, 8, b, 8_192, 2));
-    answer(b"NPPBH 8193: ", grid_of(3, 5, 1, 8, b, 8_193, 2));
-    answer(b"NPPBV 8193: ", grid_of(3, 5, 1, 8, b, 4, 8_193));
-    answer(b"bands 0: ", grid_of(3, 5, 0, 8, b, 4, 2));
-    answer(b"bands 99999: ", grid_of(3, 5, 99_999, 8, b, 4, 2));
-    answer(b"bands 100000: ", grid_of(3, 5, 100_000, 8, b, 4, 2));
+    )?;
+    answer(rt, "NPPBH 0", grid_of(3, 5, 1, 8, b, 0, 2))?;
+    answer(rt, "NPPBH 8192", grid_of(3, 5, 1, 8, b, 8_192, 2))?;
+    answer(rt, "NPPBH 8193", grid_of(3, 5, 1, 8, b, 8_193, 2))?;
+    answer(rt, "NPPBV 8193", grid_of(3, 5, 1, 8, b, 4, 8_193))?;
+    answer(rt, "bands 0", grid_of(3, 5, 0, 8, b, 4, 2))?;
+    answer(rt, "bands 99999", grid_of(3, 5, 99_999, 8, b, 4, 2))?;
+    answer(rt, "bands 100000", grid_of(3, 5, 100_000, 8, b, 4, 2))
 }
 
 // A block may be above 8,192 columns where it is as wide as the picture.
-fn wide_blocks() {
+fn wide_blocks(rt: &impl Print) -> io::Result<()> {
     let b = InterleaveMode::B;
     answer(
-        b"NCOLS 8193, NPPBH 8193: ",
+        rt,
+        "NCOLS 8193, NPPBH 8193",
         grid_of(3, 8_193, 1, 8, b, 8_193, 2),
-    );
+    )?;
     answer(
-        b"NCOLS 8194, NPPBH 8193: ",
+        rt,
+        "NCOLS 8194, NPPBH 8193",
         grid_of(3, 8_194, 1, 8, b, 8_193, 2),
-    );
+    )?;
     answer(
-        b"NROWS 8193, NPPBH 8193: ",
+        rt,
+        "NROWS 8193, NPPBH 8193",
         grid_of(8_193, 5, 1, 8, b, 8_193, 2),
-    );
+    )?;
     let wide = grid_of(3, 9_000, 1, 8, b, 9_000, 2);
-    answer(b"NCOLS 9000, NPPBH 9000, NBPR 2: ", with_blocks(wide, 2, 2));
-    answer(b"NCOLS 0, NPPBH 0: ", grid_of(3, 0, 1, 8, b, 0, 2));
-    answer(
-        b"NCOLS 99999999, NPPBH 99999999: ",
-        Grid::one_block(1, 99_999_999, 1, 8, b),
-    );
-    answer(
-        b"NCOLS 100000000, NPPBH 100000000: ",
-        Grid::one_block(1, 100_000_000, 1, 8, b),
-    );
+    let two_across = Grid {
+        nbpr: 2,
+        nbpc: 2,
+        ..wide
+    };
+    answer(rt, "NCOLS 9000, NPPBH 9000, NBPR 2", two_across)?;
+    answer(rt, "NCOLS 0, NPPBH 0", grid_of(3, 0, 1, 8, b, 0, 2))?;
+    for ncols in [99_999_999, 100_000_000] {
+        let label = format_args!("NCOLS {ncols}, NPPBH {ncols}");
+        answer(rt, label, Grid::one_block(1, ncols, 1, 8, b))?;
+    }
+    Ok(())
 }
 
 // The same for rows.
-fn high_blocks() {
+fn high_blocks(rt: &impl Print) -> io::Result<()> {
     let b = InterleaveMode::B;
     answer(
-        b"NROWS 8193, NPPBV 8193: ",
+        rt,
+        "NROWS 8193, NPPBV 8193",
         grid_of(8_193, 5, 1, 8, b, 4, 8_193),
-    );
+    )?;
     answer(
-        b"NROWS 8194, NPPBV 8193: ",
+        rt,
+        "NROWS 8194, NPPBV 8193",
         grid_of(8_194, 5, 1, 8, b, 4, 8_193),
-    );
+    )?;
     answer(
-        b"NCOLS 8193, NPPBV 8193: ",
+        rt,
+        "NCOLS 8193, NPPBV 8193",
         grid_of(3, 8_193, 1, 8, b, 4, 8_193),
-    );
+    )?;
     let high = grid_of(9_000, 5, 1, 8, b, 4, 9_000);
-    answer(b"NROWS 9000, NPPBV 9000, NBPC 2: ", with_blocks(high, 2, 2));
-    answer(b"NROWS 0, NPPBV 0: ", grid_of(0, 5, 1, 8, b, 4, 0));
-    answer(
-        b"NROWS 99999999, NPPBV 99999999: ",
-        Grid::one_block(99_999_999, 1, 1, 8, b),
-    );
-    answer(
-        b"NROWS 100000000, NPPBV 100000000: ",
-        Grid::one_block(100_000_000, 1, 1, 8, b),
-    );
+    let two_down = Grid {
+        nbpr: 2,
+        nbpc: 2,
+        ..high
+    };
+    answer(rt, "NROWS 9000, NPPBV 9000, NBPC 2", two_down)?;
+    answer(rt, "NROWS 0, NPPBV 0", grid_of(0, 5, 1, 8, b, 4, 0))?;
+    for nrows in [99_999_999, 100_000_000] {
+        let label = format_args!("NROWS {nrows}, NPPBV {nrows}");
+        answer(rt, label, Grid::one_block(nrows, 1, 1, 8, b))?;
+    }
+    Ok(())
 }
 
-fn counts() {
-    answer(b"NBPR 0: ", across(0, 1));
-    answer(b"NBPR 9999: ", across(9_999, 9_999));
-    answer(b"NBPR 10000: ", across(10_000, 10_000));
-    answer(b"NBPR 9999 of 10000: ", across(9_999, 10_000));
-    answer(b"NBPC 0: ", down(0, 1));
-    answer(b"NBPC 9999: ", down(9_999, 9_999));
-    answer(b"NBPC 10000: ", down(10_000, 10_000));
-    answer(b"NBPC 10000 of 9999: ", down(10_000, 9_999));
+fn counts(rt: &impl Print) -> io::Result<()> {
+    answer(rt, "NBPR 0", across(0, 1))?;
+    answer(rt, "NBPR 9999", across(9_999, 9_999))?;
+    answer(rt, "NBPR 10000", across(10_000, 10_000))?;
+    answer(rt, "NBPR 9999 of 10000", across(9_999, 10_000))?;
+    answer(rt, "NBPC 0", down(0, 1))?;
+    answer(rt, "NBPC 9999", down(9_999, 9_999))?;
+    answer(rt, "NBPC 10000", down(10_000, 10_000))?;
+    answer(rt, "NBPC 10000 of 9999", down(10_000, 9_999))
 }
 
-fn images() {
+fn images(rt: &impl Print) -> io::Result<()> {
     let s = InterleaveMode::S;
     answer(
-        b"image of 4294967293 bytes: ",
+        rt,
+        "image of 4294967293 bytes",
         grid_of(1_143, 30_060_973, 1, 1, s, 3_253, 1_143),
-    );
+    )?;
     answer(
-        b"image of 4294967295 bytes: ",
+        rt,
+        "image of 4294967295 bytes",
         grid_of(255, 257, 65_537, 8, s, 1, 1),
-    );
+    )?;
     answer(
-        b"image of 4294967296 bytes: ",
+        rt,
+        "image of 4294967296 bytes",
         grid_of(256, 256, 65_536, 8, s, 1, 1),
-    );
+    )?;
     answer(
-        b"image of 2 to the 64 bytes: ",
+        rt,
+        "image of 2 to the 64 bytes",
         grid_of(16_777_216, 16_777_216, 65_536, 8, s, 2_048, 2_048),
-    );
+    )?;
     answer(
-        b"largest product: ",
+        rt,
+        "largest product",
         grid_of(81_911_808, 81_911_808, 99_999, 64, s, 8_192, 8_192),
-    );
+    )
 }
 
 // The answer, and the image's bytes where it is 0.
-fn answer_with_bytes(label: &[u8], g: Grid) {
-    answer(label, g);
-    if g.check() == 0 {
-        number(b"its bytes: ", g.image_bytes() as u64);
+fn answer_with_bytes(rt: &impl Print, label: &str, grid: Grid) -> io::Result<()> {
+    answer(rt, label, grid)?;
+    match grid.check() {
+        Ok(accepted) => println!(rt; "its bytes: {}", accepted.image_bytes()),
+        Err(_) => Ok(()),
     }
 }
 
 // Pictures in one block.
-fn one_blocks() {
+fn one_blocks(rt: &impl Print) -> io::Result<()> {
     let p = InterleaveMode::P;
     answer_with_bytes(
-        b"65536 by 65536 at 1 bit in one block: ",
+        rt,
+        "65536 by 65536 at 1 bit in one block",
         Grid::one_block(65_536, 65_536, 1, 1, p),
-    );
+    )?;
     answer_with_bytes(
-        b"131075 by 262138 at 1 bit in one block: ",
+        rt,
+        "131075 by 262138 at 1 bit in one block",
         Grid::one_block(131_075, 262_138, 1, 1, p),
-    );
+    )?;
     answer_with_bytes(
-        b"67108864 by 67108864 with 512 bands of 64 bits in one block: ",
+        rt,
+        "67108864 by 67108864 with 512 bands of 64 bits in one block",
         Grid::one_block(67_108_864, 67_108_864, 512, 64, p),
-    );
+    )?;
     answer_with_bytes(
-        b"largest block: ",
+        rt,
+        "largest block",
         Grid::one_block(99_999_999, 99_999_999, 99_999, 64, p),
-    );
+    )
 }
 
-fn main() {
-    figures();
-    widths();
-    sides();
-    wide_blocks();
-    high_blocks();
-    counts();
-    images();
-    one_blocks();
+fn main(rt: HostRuntime) -> io::Result<()> {
+    figures(&rt)?;
+    answer_widths(&rt, &[0, 1, 39, 40, 63, 4_294_967_295])?;
+    sides(&rt)?;
+    wide_blocks(&rt)?;
+    high_blocks(&rt)?;
+    counts(&rt)?;
+    images(&rt)?;
+    one_blocks(&rt)
 }

@@ -7,7 +7,7 @@ use native.Mathlib.Nat.{sub-zero, suc-mul, div-mul-le_self, div-lt_iff_lt-mul}
 use native.Mathlib.Numerals.{add-one}
 use native.Mathlib.Omega.{arith}
 use lib.Arith.{digits_div, digits_mod}
-use Rattle.marks.specs.declared.FirstUnmarked.TheVariants.{None, Block}
+use Rattle.std.specs.Prelude.{Some, None}
 use Rattle.marks.specs.Marks.{first_from, first_not}
 use Rattle.marks.proofs.Marks.{passed, failed}
 
@@ -44,10 +44,10 @@ row_of passed across down h l =
     record { in_grid = omega arith; before = div-mul-le_self passed across }
 
 pub stops : (f : ℕ → Bool) (across down row column : ℕ) → row * across + column < down * across → column < across
-    → f (row * across + column) ≡ false → At f across down (row * across + column) → Block row column ≡ first_not f across down
+    → f (row * across + column) ≡ false → At f across down (row * across + column) → Some (row, column) ≡ first_not f across down
 stops f across down row column l k p a =
     let i : ℕ = row * across + column in
-    ap₂ Block (sym (digits_div row k)) (sym (digits_mod row k))
+    ap₂ (λ (r c : ℕ). Some (r, c)) (sym (digits_div row k)) (sym (digits_mod row k))
     ∙ sym (failed f across (down * across - (i + 1)) i p)
     ∙ left f across down i l a
 

@@ -14,9 +14,8 @@ use lib.Seq.{get_or-set_same, get_or-set_other, set_out, get_or-take}
 use Rattle.bits.specs.Bits.{bit_of, with_bit}
 use Rattle.bits.proofs.Bits.{with_bit-same, with_bit-other}
 use Rattle.common.specs.Tests.{pick}
-use Rattle.marks.specs.declared.FirstUnmarked.{FirstUnmarked}
-use Rattle.marks.specs.declared.FirstUnmarked.TheVariants.{None, Block}
-use Rattle.marks.specs.Marks.{marked, mark, one_if, count, first_from, first_not}
+use Rattle.std.specs.Prelude.{Option, Some, None}
+use Rattle.marks.specs.Marks.{marked, mark, one_if, count, first_from, first_not, unmarked_row, unmarked_column}
 
 -- ---- one mark
 
@@ -105,7 +104,7 @@ pub passed : (f : ℕ → Bool) (across k i : ℕ) → f i ≡ true → first_fr
 unfolding first_from pick
 passed f across k i e = rw e
 
-pub failed : (f : ℕ → Bool) (across k i : ℕ) → f i ≡ false → first_from f across (suc k) i ≡ Block (i / across) (i % across)
+pub failed : (f : ℕ → Bool) (across k i : ℕ) → f i ≡ false → first_from f across (suc k) i ≡ Some (i / across, i % across)
 unfolding first_from pick
 failed f across k i e = rw e
 
@@ -113,7 +112,7 @@ from_ext : (f h : ℕ → Bool) (across k i : ℕ) → ((j : ℕ) → i ≤ j �
 unfolding first_from
 from_ext f h across zero i e = refl
 from_ext f h across (suc k) i e =
-    ap₂ (λ (b : Bool) (r : FirstUnmarked). pick b r (Block (i / across) (i % across)))
+    ap₂ (λ (b : Bool) (r : Option (ℕ × ℕ)). pick b r (Some (i / across, i % across)))
     (e i (omega arith) (omega arith))
     (from_ext f h across k (suc i) (λ j a b. e j (omega arith) (omega arith)))
 
@@ -121,7 +120,7 @@ pub first_ext : (f h : ℕ → Bool) (across down : ℕ) → ((i : ℕ) → i < 
 first_ext f h across down e = from_ext f h across (down * across) 0 (λ j a b. e j (omega arith))
 
 -- the two answers are not the same
-block_none : {row column : ℕ} → Block row column ≡ None → ⊥
+block_none : {block : ℕ × ℕ} → Some block ≡ None → ⊥
 block_none e = let z : ◌≡◌ {A = ℕ} 0 1 = cc in omega arith
 
 -- None is the answer where all pass, and only there
@@ -148,7 +147,7 @@ from_all f across (suc k) i h =
 pub first-all : (f : ℕ → Bool) (across down : ℕ) → ((i : ℕ) → i < down * across → f i ≡ true) → first_not f across down ≡ None
 first-all f across down h = from_all f across (down * across) 0 (λ j a b. h j (omega arith))
 
--- what the answer Block says of k blocks from index i on
+-- what such an answer says of k blocks from index i on
 record FromBlock (f : ℕ → Bool) (across k i row column : ℕ) : Type 0 where
   fails : f (row * across + column) ≡ false
   from : i ≤ row * across + column
@@ -156,12 +155,12 @@ record FromBlock (f : ℕ → Bool) (across k i row column : ℕ) : Type 0 where
   column_in : column < across
   before : (j : ℕ) → i ≤ j → j < row * across + column → f j ≡ true
 
-from_block : (f : ℕ → Bool) (across k i row column : ℕ) → 0 < across → first_from f across k i ≡ Block row column → FromBlock f across k i row column
+from_block : (f : ℕ → Bool) (across k i row column : ℕ) → 0 < across → first_from f across k i ≡ Some (row, column) → FromBlock f across k i row column
 unfolding first_from
 from_block f across zero i row column l e = absurd (block_none (sym e))
 from_block f across (suc k) i row column l e = go (from_block f across k (suc i) row column l) (f i) refl
   where
-    go : (first_from f across k (suc i) ≡ Block row column → FromBlock f across k (suc i) row column)
+    go : (first_from f across k (suc i) ≡ Some (row, column) → FromBlock f across k (suc i) row column)
         → (t : Bool) → f i ≡ t → FromBlock f across (suc k) i row column
     go rest true p =
         let r : FromBlock f across k (suc i) row column = rest (sym (passed f across k i p) ∙ e) in
@@ -177,9 +176,9 @@ from_block f across (suc k) i row column l e = go (from_block f across k (suc i)
         here r j a b (yes q) = rw q p
         here r j a b (no q) = r.before j (omega arith) b
     go rest false p =
-        let b : Block (i / across) (i % across) ≡ Block row column = sym (failed f across k i p) ∙ e in
-        let r : i / across ≡ row = cc in
-        let c : i % across ≡ column = cc in
+        let b : Some (i / across, i % across) ≡ Some (row, column) = sym (failed f across k i p) ∙ e in
+        let r : i / across ≡ row = ap unmarked_row b in
+        let c : i % across ≡ column = ap unmarked_column b in
         let q : row * across + column ≡ i = ap₂ (λ (x y : ℕ). x * across + y) (sym r) (sym c) ∙ div-add-mod' i across in
         record {
           fails = rw q p;
@@ -189,14 +188,14 @@ from_block f across (suc k) i row column l e = go (from_block f across k (suc i)
           before = λ j a b. absurd (omega arith);
         }
 
--- what the answer Block says of a grid
+-- what such an answer says of a grid
 pub record FirstBlock (f : ℕ → Bool) (across down row column : ℕ) : Type 0 where
   pub fails : f (row * across + column) ≡ false
   pub row_in : row < down
   pub column_in : column < across
   pub before : (i : ℕ) → i < row * across + column → f i ≡ true
 
-pub first_block : (f : ℕ → Bool) (across down row column : ℕ) → first_not f across down ≡ Block row column → 0 < across → FirstBlock f across down row column
+pub first_block : (f : ℕ → Bool) (across down row column : ℕ) → first_not f across down ≡ Some (row, column) → 0 < across → FirstBlock f across down row column
 first_block f across down row column e l =
     let r : FromBlock f across (down * across) 0 row column = from_block f across (down * across) 0 row column l e in
     record {

@@ -11,12 +11,16 @@ use lib.Arith.{digits_div, digits_mod}
 use lib.Bits.{bit_and, bit_or, and_mask, and_le_l, or_block, or_step, or_zero_r}
 use lib.Count.{ones, ones_cat, ones-le}
 use lib.Dec.{eqb}
-use lib.ListN.{get_or, set}
+use lib.ListN.{get_or, set, length, take}
 use lib.Pow.{pow_pos, split, shr-shr, mod-pow-add}
+use Rattle.std.specs.Prelude.{◌≢◌, Option, Some, None}
+use Rattle.std.specs.Option.{unwrap_or, MatchOption}
+use Rattle.std.specs.List.{AllWithin, HoldsAt}
+use Rattle.std.proofs.lemmas.List.{get_or-take, length-take-le}
 use Rattle.bits.specs.Bits.{bit_of, with_bit}
 use Rattle.bits.proofs.Shift.{one_shl}
-use Rattle.marks.specs.Marks.{marked, mark, one_if, count}
-use Rattle.marks.proofs.Marks.{count-le, count_ext, count_add}
+use Rattle.marks.specs.Marks.{marked, mark, one_if, count, AllMarked}
+use Rattle.marks.proofs.Marks.{count-le, count-all, count_ext, count_add}
 
 or_one : (a : ℕ) → bit_or a 1 ≡ a / 2 * 2 + 1
 or_one a =
@@ -104,3 +108,28 @@ pub last-le :
     (ms : List ℕ) (n : ℕ) →
     count (n / 64 * 64) (marked ms) + ones (bit_and (get_or ms (n / 64) 0) (1 * 2 ^ (n % 64) % 2 ^ 64 - 1)) ≤ n
 last-le ms n = rw (last_word ms n) (count-le n (marked ms))
+
+-- words that are full have all their marks
+full_words :
+    (ms : List ℕ) (k : ℕ) → ((i : ℕ) → get_or ms i 0 < 2 ^ 64) → ((i : ℕ) → i < k → ones (get_or ms i 0) ≡ 64) →
+    count (k * 64) (marked ms) ≡ k * 64
+unfolding count
+full_words ms zero b f = refl
+full_words ms (suc k) b f = rw (← add-one k) (full_word ms k (b k) (f k (omega arith)) (full_words ms k b (λ i l. f i (omega arith))))
+
+-- of the first n words those before the first that is not full, or all, have all their marks
+pub found_full :
+    (ms : List ℕ) (n : ℕ) (found : Option ℕ) → n ≤ length ms → ((i : ℕ) → get_or ms i 0 < 2 ^ 64) →
+    MatchOption found (AllWithin (λ x. ones x ≡ 64) (take n ms) 0 (length (take n ms)))
+    (λ i. (i < length (take n ms)) × HoldsAt (λ x. ones x ≢ 64) (take n ms) i × AllWithin (λ x. ones x ≡ 64) (take n ms) 0 i) →
+    (unwrap_or found n ≤ n) × AllMarked ms (unwrap_or found n * 64)
+found_full ms n None l b h =
+    let t = length-take-le n ms l in (
+      omega arith,
+      count-all _ _ (full_words ms n b (λ i k. rw (get_or-take n ms i 0 k) at (h i 0 (omega arith) (omega (arith, t))))),
+    )
+found_full ms n (Some i) l b h =
+    let t = length-take-le n ms l in (
+      omega (arith, t, h.0),
+      count-all _ _ (full_words ms i b (λ j k. rw (get_or-take n ms j 0 (omega (arith, t, h.0))) at (h.2 j 0 (omega arith) k))),
+    )

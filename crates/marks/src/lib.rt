@@ -4,13 +4,6 @@
 ghost use Rattle.std.specs.Prelude.{◌≡◌, ◌+◌, ◌*◌, ◌/◌, ◌<◌, ◌≤◌, ◌^◌, length};
 ghost use Rattle.marks.specs.Marks.{mark_words, q12, marked, mark, count, first_not, AllMarked};
 
-// The first unmarked block, by rows, then columns.
-#[derive(Clone, Copy)]
-pub enum FirstUnmarked {
-    None,
-    Block { row: usize, column: usize },
-}
-
 // The words that hold n marks.
 pub fn mark_words(n: usize) -> usize
     requires { n + 63 < 2 ^ 64 }
@@ -20,6 +13,7 @@ pub fn mark_words(n: usize) -> usize
 }
 
 // Question 12: are there words for n marks?
+#[tactic(auto, unfolding(crate::specs::Marks::q12))]
 pub fn has_words(words: usize, n: usize) -> bool
     requires { n + 63 < 2 ^ 64 }
     ensures { result ≡ q12 n words }
@@ -28,6 +22,7 @@ pub fn has_words(words: usize, n: usize) -> bool
 }
 
 // Is block i marked?
+#[tactic(auto, unfolding(crate::specs::Marks::marked))]
 pub fn is_marked(marks: &[u64], i: usize) -> bool
     requires { i / 64 < length marks.now }
     ensures { result ≡ marked marks.now i }
@@ -55,12 +50,12 @@ pub fn count_marks(marks: &[u64], n: usize) -> usize
     let full = n / 64;
     let rest = n % 64;
     let mut sum: usize = 0;
-    for k in 0..full {
-        sum += u64::count_ones(marks[k]) as usize;
+    for word in &marks[..full] {
+        sum += word.count_ones() as usize;
     }
     if 0 < rest {
         let mask = (1u64 << rest) - 1;
-        sum += u64::count_ones(marks[full] & mask) as usize;
+        sum += (marks[full] & mask).count_ones() as usize;
     }
     sum
 }
@@ -70,12 +65,8 @@ fn full_words(marks: &[u64], n: usize) -> usize
     requires { n ≤ length marks.now }
     ensures { (result ≤ n) × AllMarked marks.now (result * 64) }
 {
-    for k in 0..n {
-        if u64::count_ones(marks[k]) != 64 {
-            return k;
-        }
-    }
-    n
+    let found = marks[..n].iter().position(|word| word.count_ones() != 64);
+    found.unwrap_or(n)
 }
 
 // A row before which all blocks are marked, found by whole words.
@@ -87,20 +78,19 @@ fn row_to_start(marks: &[u64], across: usize, down: usize) -> usize
     words * 64 / across
 }
 
-// The first unmarked block of a grid `across` blocks wide and `down` blocks high.
-pub fn first_unmarked(marks: &[u64], across: usize, down: usize) -> FirstUnmarked
+// The first unmarked block of a grid `across` blocks wide and `down` blocks high, by rows, then columns: its row and
+// column.
+pub fn first_unmarked(marks: &[u64], across: usize, down: usize) -> Option<(usize, usize)>
     requires { (0 < across) × (across ≤ 9999) × (down ≤ 9999) × (down * across ≤ 64 * length marks.now) }
     ensures { result ≡ first_not (marked marks.now) across down }
 {
-    let start = row_to_start(marks, across, down);
-    'first: loop {
-        for row in start..down {
-            for column in 0..across {
-                if !is_marked(marks, row * across + column) {
-                    break 'first FirstUnmarked::Block { row, column };
-                }
+    // by number: the row and the column are the answer
+    for row in row_to_start(marks, across, down)..down {
+        for column in 0..across {
+            if !is_marked(marks, row * across + column) {
+                return Some((row, column));
             }
         }
-        break 'first FirstUnmarked::None;
     }
+    None
 }

@@ -1,16 +1,15 @@
 -- Laws of a list by its elements.
 -- Assumes nothing.
-use mathlib.Core.Path.{◌≡◌, refl, sym, ap, ◌∙◌}
+use mathlib.Core.Path.{◌≡◌, refl, sym, ◌∙◌}
 use mathlib.Core.List.{List, [], ◌∷◌, ◌++◌}
-use Prim.Native.Nat.{ℕ, zero, suc, ◌+◌, ◌<◌}
+use Prim.Native.Nat.{ℕ, zero, suc, ◌<◌}
 use native.Mathlib.Numerals.{add-one}
 use native.Mathlib.Decide.{ℕ_discrete}
 use native.Mathlib.Omega.{arith}
-use lib.ListN.{length, get_or, set, length-append, length-set, get_or-append}
+use lib.ListN.{length, get_or, length-append, get_or-append}
 use lib.Seq.{get_or_at}
+use Rattle.std.proofs.lemmas.List.{ext_get_or}
 use Rattle.common.specs.Lists.{tabulate}
-use Rattle.common.specs.Over.{over}
-use Rattle.common.proofs.Over.{over_none, set-over}
 
 pub length-tabulate : (n : ℕ) (f : ℕ → ℕ) → length (tabulate n f) ≡ n
 unfolding tabulate
@@ -28,18 +27,9 @@ get_d_tabulate (suc n) f k h = go (ℕ_discrete k n) (get_d_tabulate n f k)
         let l : k < n = omega arith in
         get_or-append (tabulate n f) (f n ∷ []) 0 k (rw length-tabulate l) ∙ before l
 
--- ---- a loop that stores one element a turn
-
-pub tabulate-none : (f : ℕ → ℕ) (d : List ℕ) → d ≡ over d 0 (tabulate 0 f)
-unfolding tabulate
-tabulate-none f d = sym (over_none d 0)
-
-pub tabulate-turn : (f : ℕ → ℕ) (d : List ℕ) (k : ℕ) {ys : List ℕ} → k < length d → ys ≡ over d 0 (tabulate k f)
-    → length ys ≡ length d → (x : ℕ) (zs : List ℕ) → x ≡ f k → zs ≡ set ys k x
-    → (zs ≡ over d 0 (tabulate (k + 1) f)) × (length zs ≡ length d)
-unfolding tabulate
-tabulate-turn f d k h ey el x zs ex ez =
-    let e : 0 + length (tabulate k f) ≡ k = omega (arith, length-tabulate k f) in
-    let at = ap (λ (i : ℕ). set (over d 0 (tabulate k f)) i (f k)) (sym e) in
-    let stored = at ∙ set-over d 0 (tabulate k f) (f k) (omega arith) in
-    (rw (ez, ex, ey, add-one) stored, ap length ez ∙ simp length-set el)
+-- a list that has these elements
+pub tabulate_is : (n : ℕ) (f : ℕ → ℕ) (xs : List ℕ) → length xs ≡ n
+    → ((k : ℕ) → k < n → get_or xs k 0 ≡ f k) → xs ≡ tabulate n f
+tabulate_is n f xs l e =
+    ext_get_or 0 xs (tabulate n f) (l ∙ sym (length-tabulate n f))
+    (λ k h. let b : k < n = omega arith in e k b ∙ sym (get_d_tabulate n f k b))

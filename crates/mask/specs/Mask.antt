@@ -1,21 +1,26 @@
 -- Parse, lookup, mask write and the mask from marks, with their questions. Questions 1 to 4 and 6 stand in grid, 12 in
 -- marks.
 -- Assumes nothing.
-use Rattle.std.specs.Prelude.{ℕ, ◌*◌, ◌^◌, Bool, true, false, not, List, [], ◌∷◌, leb, ltb, eqb, length}
+use Rattle.std.specs.Prelude.{ℕ, ◌≡◌, ◌*◌, ◌^◌, Bool, true, false, not, List, [], ◌∷◌, leb, ltb, eqb, length}
+use Rattle.std.specs.Prelude.{Option, Some, None, Result, Ok, Err}
+use Rattle.refusals.specs.declared.Refusal.{Refusal}
+use Rattle.refusals.specs.Refusals.{number_of}
 use Rattle.common.specs.Questions.{ask, outcome}
 use Rattle.common.specs.Tests.{every, some, pick}
 use Rattle.common.specs.Lists.{tabulate}
 use Rattle.common.specs.Over.{over}
 use Rattle.grid.specs.declared.Grid.{Grid}
+use Rattle.grid.specs.declared.AcceptedGrid.{AcceptedGrid}
 use Rattle.grid.specs.Check.{ask_grid, q6}
 use Rattle.grid.specs.Sizes.{blocks}
 use Rattle.marks.specs.Marks.{q12, marked}
 use Rattle.mask.specs.declared.ImageDataMask.{ImageDataMask}
+use Rattle.mask.specs.declared.ParsedMask.{ParsedMask}
 use Rattle.mask.specs.declared.Parsed.{Parsed}
 use Rattle.mask.specs.declared.Present.{Present}
 use Rattle.mask.specs.declared.BlockOffset.{BlockOffset}
 use Rattle.mask.specs.declared.Written.{Written}
-use Rattle.mask.specs.Table.{records, lookup_record, filled_block, code_bytes, mask_size, header}
+use Rattle.mask.specs.Table.{records, lookup_record, filled_block, code_bytes, mask_size, header, header_with}
 use Rattle.mask.specs.Table.{block_record, table_bytes}
 
 -- ---- questions
@@ -92,6 +97,15 @@ no_mask =
 abbrev pub no_parse : ℕ → Parsed
 no_parse n = record { number = n; mask = no_mask; used = 0 }
 
+-- what C is answered for what parse, or the mask from marks, gives
+abbrev pub parsed_of : Result ParsedMask Refusal → Parsed
+parsed_of (Ok parsed) = record { number = 0; mask = parsed.mask; used = parsed.used }
+parsed_of (Err refusal) = no_parse (number_of refusal)
+
+-- what the questions of a table give: its grid, accepted, and its header without the pad code
+abbrev pub IsChecked : Grid → List ℕ → AcceptedGrid × ImageDataMask → Type 0
+IsChecked g table (grid, head) = (grid.grid ≡ g) × (head ≡ header_with table 0)
+
 -- parse: the header, the code and the count of bytes used
 unfoldable pub parse : Grid → List ℕ → Parsed
 parse g table =
@@ -116,6 +130,11 @@ lookup_number g table row column band = ask_grid g (lookup_questions g table row
 abbrev pub record_of : Grid → List ℕ → ℕ → ℕ → ℕ → ℕ
 record_of g table row column band = block_record table (lookup_record g row column band)
 
+-- the same, or none where the table has no block records
+abbrev pub record_if_any : Grid → List ℕ → ℕ → ℕ → ℕ → Option ℕ
+record_if_any g table row column band =
+    pick (eqb (header table).block_mask_record_length 0) None (Some (record_of g table row column band))
+
 -- an offset of all ones marks an empty block; without block records every block is present
 unfoldable pub is_present : Grid → List ℕ → ℕ → ℕ → ℕ → Bool
 is_present g table row column band =
@@ -125,6 +144,11 @@ is_present g table row column band =
 -- what a refused lookup of a block answers
 abbrev pub not_present : ℕ → Present
 not_present n = record { number = n; present = false }
+
+-- what C is answered for what `has_block` gives
+abbrev pub present_of : Result Bool Refusal → Present
+present_of (Ok present) = record { number = 0; present = present }
+present_of (Err refusal) = not_present (number_of refusal)
 
 -- lookup: is a band of a block present
 unfoldable pub has_block : Grid → List ℕ → ℕ → ℕ → ℕ → Present
@@ -146,6 +170,12 @@ no_offset n = record { number = n; given = false; offset = 0 }
 -- the answer of an accepted lookup
 abbrev pub offset_if : Bool → ℕ → BlockOffset
 offset_if given offset = pick given (record { number = 0; given = true; offset = offset }) (no_offset 0)
+
+-- what C is answered for what `get_block_offset` gives
+abbrev pub offset_of : Result (Option ℕ) Refusal → BlockOffset
+offset_of (Ok (Some offset)) = record { number = 0; given = true; offset = offset }
+offset_of (Ok None) = no_offset 0
+offset_of (Err refusal) = no_offset (number_of refusal)
 
 -- lookup: the offset of a band of a block
 unfoldable pub get_block_offset : Grid → List ℕ → ℕ → ℕ → ℕ → BlockOffset
@@ -184,6 +214,11 @@ written_with answer out = record { answer = answer; out = out }
 -- what a refused mask write answers
 abbrev pub not_written : ℕ → Written
 not_written n = record { number = n; bytes = 0 }
+
+-- what C is answered for what a mask write gives
+abbrev pub written_of : Result ℕ Refusal → Written
+written_of (Ok bytes) = record { number = 0; bytes = bytes }
+written_of (Err refusal) = not_written (number_of refusal)
 
 -- mask write: the table put at the front of the output
 unfoldable pub to_bytes : Grid → ImageDataMask → List ℕ → List ℕ → List ℕ → WrittenOut

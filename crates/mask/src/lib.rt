@@ -2,13 +2,12 @@
 #![tactic(auto)]
 
 ghost use Rattle.std.specs.Prelude.{◌≡◌};
-ghost use Rattle.grid.specs.Check.{Accepted};
 ghost use Rattle.mask.specs.Table.{records, code_bytes};
 
 use common::pick;
-use grid::Grid;
-use layout::bands_apart;
+use grid::AcceptedGrid;
 
+mod answers;
 mod fill;
 mod lookup;
 mod parse;
@@ -30,8 +29,15 @@ pub struct ImageDataMask {
     pub pad_pixel_code: u32,
 }
 
-// What parse answers: the number, the header, and the bytes that the table takes. The mask from marks answers the words
+// What an accepted parse gives: the header, and the bytes that the table takes. The mask from marks gives the words
 // that it filled.
+#[derive(Clone, Copy)]
+pub struct ParsedMask {
+    pub mask: ImageDataMask,
+    pub used: usize,
+}
+
+// What C is answered by parse and by the mask from marks: the number, and what an accepted call gives.
 #[repr(C)]
 #[derive(Clone, Copy)]
 pub struct Parsed {
@@ -40,7 +46,7 @@ pub struct Parsed {
     pub used: usize,
 }
 
-// What `has_block` answers.
+// What C is answered by `has_block`.
 #[repr(C)]
 #[derive(Clone, Copy)]
 pub struct Present {
@@ -48,7 +54,7 @@ pub struct Present {
     pub present: bool,
 }
 
-// What `get_block_offset` answers: `given` where the block is present and the table has block records.
+// What C is answered by `get_block_offset`: `given` where the block is present and the table has block records.
 #[repr(C)]
 #[derive(Clone, Copy)]
 pub struct BlockOffset {
@@ -57,7 +63,7 @@ pub struct BlockOffset {
     pub offset: u32,
 }
 
-// What `to_bytes` answers: the number, and the bytes written.
+// What C is answered by `to_bytes`: the number, and the bytes written.
 #[repr(C)]
 #[derive(Clone, Copy)]
 pub struct Written {
@@ -80,21 +86,20 @@ impl ImageDataMask {
 
     // The most bytes of a written table.
     pub const MAX_TABLE_BYTES: usize = 4_294_967_295;
+
+    // The bytes of the pad code.
+    fn code_bytes(self) -> usize
+        ensures { result ≡ code_bytes self.pad_pixel_code_length }
+    {
+        (self.pad_pixel_code_length as usize).div_ceil(8)
+    }
 }
 
 // The records of a table, of each kind that it has at all: one a block, in S one a block and band.
-fn record_count(grid: Grid) -> usize
-    requires { Accepted grid }
-    ensures { result ≡ records grid }
+fn record_count(grid: AcceptedGrid) -> usize
+    ensures { result ≡ records grid.grid }
 {
-    let mode = grid.imode;
     let blocks = grid.blocks();
-    pick(bands_apart(mode), blocks * grid.bands as usize, blocks)
-}
-
-// The bytes of a pad code of so many bits.
-fn code_bytes(bits: u16) -> usize
-    ensures { result ≡ code_bytes bits }
-{
-    (bits as usize + 7) / 8
+    let apart = grid.grid.imode.bands_apart();
+    pick(apart, blocks * grid.grid.bands as usize, blocks)
 }

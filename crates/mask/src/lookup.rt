@@ -1,115 +1,75 @@
-// Is a block present, and where is it?
-ghost use Rattle.std.specs.Prelude.{◌≡◌};
-ghost use Rattle.bits.specs.Bits.{be_at};
-ghost use Rattle.grid.specs.Check.{Accepted};
-ghost use Rattle.grid.specs.Layout.{Block};
+// Is a block present, and where is it? The parameters are the Rust's, by a rule of the project.
+ghost use Rattle.std.specs.Prelude.{◌≡◌, ◌<◌, IfOk};
+ghost use Rattle.refusals.specs.Refusals.{answer_number};
 ghost use Rattle.mask.specs.Table.{lookup_record};
-ghost use Rattle.mask.specs.Mask.{lookup_number, record_of, has_block, get_block_offset};
+ghost use Rattle.mask.specs.Mask.{lookup_number, record_if_any, present_of, has_block, offset_of, get_block_offset};
 
-use crate::parse::{read_four, read_two};
-use crate::{BlockOffset, ImageDataMask, Present, code_bytes};
+use crate::ImageDataMask;
+use bits::bytes::get_be;
 use common::pick;
-use grid::Grid;
-use layout::bands_apart;
+use grid::{Grid, GridBlock};
+use refusals::Refusal;
 
 // The record that lookup takes for a band of a block; in S it is the Rust's index + band.
-fn lookup_record(grid: Grid, block_row: u32, block_col: u32, band: u32) -> usize
-    requires accepted { Accepted grid }
-    requires block { Block grid block_row block_col }
-    ensures { result ≡ lookup_record grid block_row block_col band }
+fn lookup_record(block: GridBlock, band: u32) -> usize
+    ensures { result ≡ lookup_record block.grid.grid block.row block.column band }
 {
-    let mode = grid.imode;
-    let index = grid.block_index(block_row as usize, block_col as usize);
-    pick(bands_apart(mode), index + band as usize, index)
+    let apart = block.grid.grid.imode.bands_apart();
+    let index = block.index();
+    pick(apart, index + band as usize, index)
 }
 
 impl ImageDataMask {
-    // The questions of a lookup: those of the table, 6 and 8.
-    pub fn lookup_number(table: &[u8], grid: Grid, block_row: u32, block_col: u32, band: u32) -> u32
-        ensures { result ≡ lookup_number grid table.now block_row block_col band }
+    // The offset that a table has for a band of a block; none where it has no block records. Asks the questions of the
+    // table, 6 and 8.
+    pub fn find_record(
+        table: &[u8],
+        grid: Grid,
+        block_row: u32,
+        block_col: u32,
+        band: u32,
+    ) -> Result<Option<u32>, Refusal>
+        ensures number { answer_number result ≡ lookup_number grid table.now block_row block_col band }
+        ensures record { IfOk result (λ r. r ≡ record_if_any grid table.now block_row block_col band) }
     {
-        let number = Self::parse_number(table, grid);
-        if number != 0 {
-            return number;
+        let (grid, head) = Self::check_table(table, grid)?;
+        let block = grid.block(block_row, block_col)?;
+        if band >= grid.grid.bands {
+            return Err(Refusal::NoSuchBand);
         }
-        if !grid.has_block(block_row, block_col) {
-            return 6;
+        if head.block_mask_record_length == 0 {
+            return Ok(None);
         }
-        if band >= grid.bands {
-            return 8;
-        }
-        0
-    }
-
-    // The offset that a table has for a band of a block.
-    fn record_of(table: &[u8], grid: Grid, block_row: u32, block_col: u32, band: u32) -> u32
-        requires no_refusal { lookup_number grid table.now block_row block_col band ≡ 0 }
-        requires has_records { be_at table.now 4 2 ≡ 0 → ⊥ }
-        ensures { result ≡ record_of grid table.now block_row block_col band }
-    {
-        let record = lookup_record(grid, block_row, block_col, band);
-        let code = code_bytes(read_two(table, 8));
-        read_four(table, Self::HEADER_BYTES + code + record * 4)
+        let record = lookup_record(block, band);
+        let at = Self::HEADER_BYTES + head.code_bytes() + record * 4;
+        Ok(Some(get_be(table, at, 4) as u32))
     }
 
     // Is a band of a block present? Without block records every block is.
-    pub fn has_block(table: &[u8], grid: Grid, block_row: u32, block_col: u32, band: u32) -> Present
-        ensures { result ≡ has_block grid table.now block_row block_col band }
+    pub fn has_block(
+        table: &[u8],
+        grid: Grid,
+        block_row: u32,
+        block_col: u32,
+        band: u32,
+    ) -> Result<bool, Refusal>
+        ensures { present_of result ≡ has_block grid table.now block_row block_col band }
     {
-        let number = Self::lookup_number(table, grid, block_row, block_col, band);
-        if number != 0 {
-            return Present {
-                number,
-                present: false,
-            };
-        }
-        if read_two(table, 4) == 0 {
-            return Present {
-                number: 0,
-                present: true,
-            };
-        }
-        let record = Self::record_of(table, grid, block_row, block_col, band);
-        Present {
-            number: 0,
-            present: record != Self::EMPTY_BLOCK_OFFSET,
-        }
+        let record = Self::find_record(table, grid, block_row, block_col, band)?;
+        Ok(record != Some(Self::EMPTY_BLOCK_OFFSET))
     }
 
-    // The offset of a band of a block; none is given for an empty block, or without block records.
+    // The offset of a band of a block; none for an empty block, or without block records.
     pub fn get_block_offset(
         table: &[u8],
         grid: Grid,
         block_row: u32,
         block_col: u32,
         band: u32,
-    ) -> BlockOffset
-        ensures { result ≡ get_block_offset grid table.now block_row block_col band }
+    ) -> Result<Option<u32>, Refusal>
+        ensures { offset_of result ≡ get_block_offset grid table.now block_row block_col band }
     {
-        let none = BlockOffset {
-            number: 0,
-            given: false,
-            offset: 0,
-        };
-        let number = Self::lookup_number(table, grid, block_row, block_col, band);
-        if number != 0 {
-            return BlockOffset {
-                number,
-                given: false,
-                offset: 0,
-            };
-        }
-        if read_two(table, 4) == 0 {
-            return none;
-        }
-        let offset = Self::record_of(table, grid, block_row, block_col, band);
-        if offset == Self::EMPTY_BLOCK_OFFSET {
-            return none;
-        }
-        BlockOffset {
-            number: 0,
-            given: true,
-            offset,
-        }
+        let record = Self::find_record(table, grid, block_row, block_col, band)?;
+        Ok(record.filter(|offset| *offset != Self::EMPTY_BLOCK_OFFSET))
     }
 }

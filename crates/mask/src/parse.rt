@@ -1,52 +1,27 @@
 // Reading a table's header.
-ghost use Rattle.std.specs.Prelude.{◌≡◌, ◌+◌, ◌≤◌, length};
-ghost use Rattle.bits.specs.Bits.{be_at};
-ghost use Rattle.grid.specs.Check.{Accepted};
+ghost use Rattle.std.specs.Prelude.{◌≡◌, ◌≤◌, length, IfOk};
+ghost use Rattle.refusals.specs.Refusals.{answer_number};
 ghost use Rattle.mask.specs.Table.{header_with, mask_size};
-ghost use Rattle.mask.specs.Mask.{is_record_length, q17, no_mask, parse_number, parse as parse_of};
+ghost use Rattle.mask.specs.Mask.{is_record_length, q16, q17, parse_number, IsChecked, parsed_of, parse as parse_of};
 
-use crate::{ImageDataMask, Parsed, code_bytes, record_count};
+use crate::{ImageDataMask, ParsedMask, record_count};
 use bits::bytes::get_be;
-use grid::Grid;
-
-// The big-endian number in two bytes of a table.
-pub fn read_two(table: &[u8], at: usize) -> u16
-    requires { at + 2 ≤ length table.now }
-    ensures { result ≡ be_at table.now at 2 }
-{
-    get_be(table, at, 2) as u16
-}
-
-// The big-endian number in four bytes of a table.
-pub fn read_four(table: &[u8], at: usize) -> u32
-    requires { at + 4 ≤ length table.now }
-    ensures { result ≡ be_at table.now at 4 }
-{
-    get_be(table, at, 4) as u32
-}
+use grid::{AcceptedGrid, Grid};
+use refusals::Refusal;
 
 // Is this the length of records, or 0 for none?
 fn is_record_length(n: u16) -> bool
     ensures { result ≡ is_record_length n }
 {
-    if n == 0 {
-        return true;
-    }
-    n == ImageDataMask::RECORD_LENGTH
+    n == 0 || n == ImageDataMask::RECORD_LENGTH
 }
 
 impl ImageDataMask {
-    // No mask: what stands beside a refusal.
-    pub fn none() -> Self
-        ensures { result ≡ no_mask }
+    // Question 16: are there the bytes before the pad code?
+    fn has_header(table: &[u8]) -> bool
+        ensures { result ≡ q16 table.now }
     {
-        Self {
-            image_data_offset: 0,
-            block_mask_record_length: 0,
-            pad_pixel_mask_record_length: 0,
-            pad_pixel_code_length: 0,
-            pad_pixel_code: 0,
-        }
+        Self::HEADER_BYTES <= table.len()
     }
 
     // The header of a table without its pad code.
@@ -55,10 +30,10 @@ impl ImageDataMask {
         ensures { result ≡ header_with table.now 0 }
     {
         Self {
-            image_data_offset: read_four(table, 0),
-            block_mask_record_length: read_two(table, 4),
-            pad_pixel_mask_record_length: read_two(table, 6),
-            pad_pixel_code_length: read_two(table, 8),
+            image_data_offset: get_be(table, 0, 4) as u32,
+            block_mask_record_length: get_be(table, 4, 2) as u16,
+            pad_pixel_mask_record_length: get_be(table, 6, 2) as u16,
+            pad_pixel_code_length: get_be(table, 8, 2) as u16,
             pad_pixel_code: 0,
         }
     }
@@ -67,67 +42,50 @@ impl ImageDataMask {
     pub fn has_record_lengths(self) -> bool
         ensures { result ≡ q17 self }
     {
-        if !is_record_length(self.block_mask_record_length) {
-            return false;
-        }
-        is_record_length(self.pad_pixel_mask_record_length)
+        is_record_length(self.block_mask_record_length)
+            && is_record_length(self.pad_pixel_mask_record_length)
     }
 
     // The bytes of a table with this header.
-    pub fn table_bytes(self, grid: Grid) -> usize
-        requires { Accepted grid }
-        ensures { result ≡ mask_size grid self }
+    pub fn table_bytes(self, grid: AcceptedGrid) -> usize
+        ensures { result ≡ mask_size grid.grid self }
     {
         let block = self.block_mask_record_length as usize;
         let pad = self.pad_pixel_mask_record_length as usize;
-        let code = code_bytes(self.pad_pixel_code_length);
+        let code = self.code_bytes();
         Self::HEADER_BYTES + code + record_count(grid) * (block + pad)
     }
 
-    // The questions of a table: 1 to 4, 16 to 19.
-    pub fn parse_number(table: &[u8], grid: Grid) -> u32
-        ensures { result ≡ parse_number grid table.now }
+    // The questions of a table: 1 to 4, 16 to 19. Gives the accepted grid, and the header without the pad code.
+    pub fn check_table(table: &[u8], grid: Grid) -> Result<(AcceptedGrid, Self), Refusal>
+        ensures number { answer_number result ≡ parse_number grid table.now }
+        ensures header { IfOk result (IsChecked grid table.now) }
     {
-        let number = grid.check();
-        if number != 0 {
-            return number;
-        }
-        if table.len() < Self::HEADER_BYTES {
-            return 16;
+        let grid = grid.check()?;
+        if !Self::has_header(table) {
+            return Err(Refusal::TableTooShort);
         }
         let head = Self::lengths(table);
         if !head.has_record_lengths() {
-            return 17;
+            return Err(Refusal::RecordLength);
         }
         if Self::MAX_CODE_BITS < head.pad_pixel_code_length {
-            return 18;
+            return Err(Refusal::PadCodeLength);
         }
         if table.len() < head.table_bytes(grid) {
-            return 19;
+            return Err(Refusal::TableEnds);
         }
-        0
+        Ok((grid, head))
     }
 
     // Reads the header and the pad code of a table, and counts the bytes that it takes.
-    pub fn parse(table: &[u8], grid: Grid) -> Parsed
-        ensures { result ≡ parse_of grid table.now }
+    pub fn parse(table: &[u8], grid: Grid) -> Result<ParsedMask, Refusal>
+        ensures { parsed_of result ≡ parse_of grid table.now }
     {
-        let number = Self::parse_number(table, grid);
-        if number != 0 {
-            return Parsed {
-                number,
-                mask: Self::none(),
-                used: 0,
-            };
-        }
-        let mut mask = Self::lengths(table);
+        let (grid, mut mask) = Self::check_table(table, grid)?;
         let used = mask.table_bytes(grid);
-        let size = code_bytes(mask.pad_pixel_code_length);
+        let size = mask.code_bytes();
         mask.pad_pixel_code = get_be(table, Self::HEADER_BYTES, size) as u32;
-        Parsed {
-            number: 0,
-            mask,
-            used,
-        }
+        Ok(ParsedMask { mask, used })
     }
 }

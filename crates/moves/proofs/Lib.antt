@@ -6,8 +6,11 @@ pub mod Answers
 pub mod StoreLengths
 pub mod Stored
 pub mod StoredBits
-pub mod StoreBounds
 pub mod Orders
 pub mod Pieces
 pub mod ReadPieces
 pub mod StorePieces
+pub mod Counted
+pub mod PartReads
+pub mod BlockStores
+pub mod RowRuns

@@ -6,7 +6,7 @@ use mathlib.Core.Bool.{Bool, true, false}
 use mathlib.Core.List.{List}
 use native.Mathlib.Omega.{arith}
 use native.Mathlib.Decide.{dec_lt}
-use native.Mathlib.Nat.{zero-div, zero-mod, mod-lt, div-add-mod', div-lt_iff_lt-mul, mul-le-mul_right, suc-mul}
+use native.Mathlib.Nat.{mod-lt, div-add-mod', div-lt_iff_lt-mul, mul-le-mul_right, suc-mul}
 use borrow.Author.Tests.{lt-ltb, le-ltb}
 use lib.Dec.{ltb}
 use lib.Arith.{digits_lt, digits_div, digits_mod}
@@ -20,8 +20,8 @@ use Rattle.moves.specs.declared.order.Piece.{Piece}
 use Rattle.moves.specs.declared.order.Order.{Order}
 use Rattle.moves.specs.declared.order.Way.{Way}
 use Rattle.moves.specs.declared.order.Way.TheVariants.{Rows, Pixels, Runs}
-use Rattle.moves.specs.Internal.Orders.{part_of, next_part, RightCut, SpanIn, InSpan, order_of, area_count, area_of}
-use Rattle.moves.specs.Internal.Orders.{advanced, next_area, AreaIn, InArea, piece_of, band_of, bands_of_area}
+use Rattle.moves.specs.Internal.Orders.{part_of, next_part, RightCut, SpanIn, InSpan, area_count, area_of}
+use Rattle.moves.specs.Internal.Orders.{advanced, next_area, AreaIn, InArea, piece_of}
 use Rattle.moves.specs.Internal.Orders.{RightCuts, PieceIn, InPiece}
 use Rattle.moves.specs.Internal.Orders.{WayFits, PixelBands, Listed, ListedOrder, AreaMoves, Chosen}
 use Rattle.moves.specs.Internal.Puts.{Samples, Target, Among, Puts}
@@ -108,13 +108,6 @@ later_from c r p = lt-ltb 0 ((p + 1) * c.most) (omega (arith, suc-mul p c.most, 
 first-from : (c : Cut) → ltb 0 (0 * c.most) ≡ false
 first-from c = le-ltb 0 (0 * c.most) (omega arith)
 
-pub area_first : (o : Order) → record { rows = part_of o.rows 0; columns = part_of o.columns 0 } ≡ area_of o 0
-area_first o =
-    λ i. record {
-      rows = part_of o.rows (sym (zero-div o.columns.parts) i);
-      columns = part_of o.columns (sym (zero-mod o.columns.parts) i);
-    }
-
 -- the area after an area, as its two cases have it
 module _ (o : Order) (a : Area) {c : Span} (ec : c ≡ next_part o.columns a.columns) where
   pub columns-go_on : 0 < c.from → record { rows = a.rows; columns = c } ≡ next_area o a
@@ -187,24 +180,6 @@ module _ (o : Order) (q : RightCuts o) (r c : ℕ) (hr : r < o.rows.length) (hc 
       }
 
 -- ---- an order that was chosen
-
-pub chosen : (l : BlockLayout) (together bands rows columns b r c : ℕ) (way : Way) {o : Order} → 0 < b → 0 < r → 0 < c
-    → o ≡ order_of way bands b rows r columns c → WayFits way l b r → PixelBands way together b
-    → Chosen l together bands rows columns o
-chosen l together bands rows columns b r c way hb hr hc e fits pixels =
-    rw e
-    (record {
-      right = record {
-        bands-cut = record { some = hb; parts_are = refl };
-        rows_cut = record { some = hr; parts_are = refl };
-        columns-cut = record { some = hc; parts_are = refl };
-      };
-      bands_are = refl;
-      rows_are = refl;
-      columns_are = refl;
-      way-fits = fits;
-      pixels = pixels;
-    })
 
 -- fewer rows, or fewer bands, go the same way
 way_area : (w : Way) (l : BlockLayout) (b r r' y : ℕ) → r' ≡ min r y → 0 < r' → WayFits w l b r → WayFits w l b r'
@@ -306,69 +281,6 @@ module _ {l : BlockLayout} {bands rows columns : ℕ} {o : Order} {q : Area} (mv
         rw (e, sym mv.bands_are)
         (listed_piece o.way all o.bands.length o.bands.most p piece_starts (rw mv.bands_are listed))
 
--- one turn more of n, and one less to go
-pub turn-le : {n p : ℕ} → p < n → p + 1 ≤ n
-turn-le h = omega arith
-
-pub turn-fits : {n p : ℕ} → p < n → n < 2 ^ 64 → p + 1 < 2 ^ 64
-turn-fits h l = omega arith
-
-pub turn_less : {n p : ℕ} → p < n → n - (p + 1) < n - p
-turn_less h = omega arith
-
--- ---- a loop over the bands of an area, one by one
-
-abbrev pub BandsBefore : Area → ℕ → Samples
-BandsBefore q k = Before (InArea q) (λ b r c. b) k
-
-pub no-bands : (t : Target) (q : Area) (xs : List ℕ) → Puts t (BandsBefore q 0) xs xs
-no-bands t q xs = puts_none t xs (λ b r c h. omega (arith, h.1))
-
-module _ (t : Target) {q : Area} where
-  pub band-turn : (k : ℕ) {xs ys zs : List ℕ} → Puts t (BandsBefore q k) xs ys → Puts t (InPiece (band_of q k)) ys zs
-      → Puts t (BandsBefore q (k + 1)) xs zs
-  band-turn k before now =
-      puts_turn t k before
-      (puts_less t now (λ b r c a h.
-      record {
-        in_b = record { low = omega (arith, h.1); high = omega (arith, h.1) };
-        in_r = h.0.in_r;
-        in_c = h.0.in_c;
-      }))
-
-  pub bands-done : (k : ℕ) {xs ys : List ℕ} → k ≡ t.bands → Puts t (BandsBefore q k) xs ys → Puts t (InArea q) xs ys
-  bands-done k e x = puts_less t x (λ b r c a h. (h, omega (arith, e, a.in_b)))
-
-  -- all of them at once
-  pub bands-at_once : (n : ℕ) {xs ys : List ℕ} → n ≡ t.bands → Puts t (InPiece (bands_of_area q n)) xs ys
-      → Puts t (InArea q) xs ys
-  bands-at_once n e x =
-      puts_less t x (λ b r c a h.
-      record {
-        in_b = record { low = omega arith; high = omega (arith, e, a.in_b) };
-        in_r = h.in_r;
-        in_c = h.in_c;
-      })
-
--- the pieces of an area
-pub band-inside : {bands rows columns : ℕ} {q : Area} → AreaIn rows columns q → (k : ℕ) → k < bands
-    → PieceIn bands rows columns (band_of q k)
-band-inside i k h =
-    record {
-      in_bands = record { some = omega arith; ends = omega arith };
-      in_rows = i.in_rows;
-      in_columns = i.in_columns;
-    }
-
-pub bands-inside : {bands rows columns : ℕ} {q : Area} → AreaIn rows columns q → (n : ℕ) → 0 < n → n ≡ bands
-    → PieceIn bands rows columns (bands_of_area q n)
-bands-inside i n some e =
-    record {
-      in_bands = record { some = some; ends = omega (arith, e) };
-      in_rows = i.in_rows;
-      in_columns = i.in_columns;
-    }
-
 -- ---- a loop over the bands of an area, part by part
 
 abbrev pub PartsBefore : Order → Area → ℕ → Samples
@@ -402,9 +314,6 @@ module _ (t : Target) {l : BlockLayout} {rows columns : ℕ} {o : Order} {q : Ar
 -- the samples of the areas before area a
 abbrev pub AreasBefore : Order → ℕ → Samples
 AreasBefore o a = Before (λ b r c. Unit {0}) (λ b r c. area_number o r c) a
-
-pub no_area : (t : Target) (o : Order) (xs : List ℕ) → Puts t (AreasBefore o 0) xs xs
-no_area t o xs = puts_none t xs (λ b r c h. omega (arith, h.1))
 
 module _ (t : Target) {l : BlockLayout} {together : ℕ} {o : Order}
     (ch : Chosen l together t.bands t.rows t.columns o) where

@@ -21,16 +21,14 @@ use Rattle.layout.specs.Internal.Layout.{sample_bytes}
 use Rattle.layout.specs.Internal.Spacing.{has_strides, band_stride}
 use Rattle.layout.proofs.Places.{sample-size}
 use Rattle.moves.specs.declared.part.Part.{Part}
-use Rattle.moves.specs.declared.order.Order.{Order}
 use Rattle.moves.specs.declared.order.Piece.{Piece}
 use Rattle.moves.specs.declared.spacing.Spacing.{Spacing}
-use Rattle.moves.specs.declared.spacing.Sides.{Sides}
-use Rattle.moves.specs.Internal.Parts.{Readable, sample_at, part_read, answer_target, samples_read}
-use Rattle.moves.specs.Internal.Puts.{Samples, InRow, Among, Puts}
-use Rattle.moves.specs.Internal.Orders.{PieceIn, InPiece, Chosen}
-use Rattle.moves.specs.Internal.Spacings.{spaced_at, first_at, plane_spacing, sides_of}
+use Rattle.moves.specs.Internal.Parts.{Readable, sample_at, answer_target, samples_read}
+use Rattle.moves.specs.Internal.Puts.{InRow, Puts}
+use Rattle.moves.specs.Internal.Orders.{PieceIn, InPiece}
+use Rattle.moves.specs.Internal.Spacings.{spaced_at, first_at, plane_spacing}
 use Rattle.moves.proofs.Putting.{puts_less, puts_turns}
-use Rattle.moves.proofs.Answers.{answer_run, answer-done}
+use Rattle.moves.proofs.Answers.{answer_run}
 use Rattle.moves.proofs.Pieces.{plane-at, planes_end, Placed, place_is, whole-bytes}
 
 -- ---- bands of a list
@@ -39,35 +37,13 @@ pub listed-count : (bands : ℕ) (list : List ℕ) → band_count bands (bands_o
 unfolding band_count pick
 listed-count bands list = refl
 
+pub count_listed : (bands : ℕ) (bs : Bands) → bs.all ≡ false → band_count bands bs ≡ length bs.list
+unfolding band_count pick
+count_listed bands bs e = rw e refl
+
 pub listed_at : (list : List ℕ) (k : ℕ) → get_or list k 0 ≡ band_at (bands_of false list) k
 unfolding band_at pick
 listed_at list k = refl
-
--- ---- both sides as the code has them
-
-pub own-sides : (l : BlockLayout) {p : Part} {rows columns : ℕ} {sd : Sides} → sd ≡ sides_of l p rows columns
-    → sd ≡ sides_of l sd.part sd.rows sd.columns
-own-sides l e = rw e refl
-
-module _ {l : BlockLayout} {p : Part} {rows columns : ℕ} {sd : Sides} (e : sd ≡ sides_of l p rows columns) where
-  pub own-readable : (n : ℕ) (bs : Bands) {m m' : ℕ} → Readable l n p bs rows columns m → m' ≡ m
-      → Readable l n sd.part bs sd.rows sd.columns m'
-  own-readable n bs t em = rw (e, em) t
-
-  pub own_order : (together : ℕ) {count n : ℕ} {o : Order} → count ≡ n
-      → Chosen l together count p.rows p.columns o → Chosen l together n sd.part.rows sd.part.columns o
-  own_order together ec ch = rw (e, sym ec) ch
-
--- all samples read
-pub read_done : (l : BlockLayout) (src : List ℕ) (n : ℕ) (p : Part) (bs : Bands) (rows columns m : ℕ)
-    {sd : Sides} {some : Samples} {out after : List ℕ} → sd ≡ sides_of l p rows columns → Readable l n p bs rows
-    columns m
-    → Puts (answer_target l src sd.part bs sd.rows sd.columns) some out after
-    → ((k i j : ℕ) → Among (answer_target l src sd.part bs sd.rows sd.columns) k i j → some k i j)
-    → after ≡ part_read l src p bs rows columns out
-read_done l src n p bs rows columns m e t z all =
-    answer-done l src p bs rows columns (sample-size l t.accepted).some t.to_rows t.to_columns (rw e at z)
-    (rw e at all)
 
 -- ---- a piece
 

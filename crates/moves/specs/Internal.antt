@@ -5,3 +5,5 @@ pub mod Stores
 pub mod Spacings
 pub mod Orders
 pub mod Runs
+pub mod PartReads
+pub mod BlockStores

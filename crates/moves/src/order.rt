@@ -1,8 +1,9 @@
 // The order in which the samples of a part are moved: piece by piece, so that the lines of the cache that a piece
 // touches are used again soon.
-ghost use Rattle.std.specs.Prelude.{◌≡◌, true, false, ◌+◌, ◌*◌, ◌%◌, ◌^◌, ◌≤◌, ◌<◌};
+ghost use Rattle.std.specs.Prelude.{◌≡◌, true, false, ◌+◌, ◌*◌, ◌%◌, ◌^◌, ◌≤◌, ◌<◌, length};
+ghost use Rattle.layout.specs.Bands.{bands_in};
 ghost use Rattle.layout.specs.Internal.Layout.{Sound};
-ghost use Rattle.moves.specs.Internal.Orders.{cut_into, part_of, next_part, order_of, area_count, area_of};
+ghost use Rattle.moves.specs.Internal.Orders.{cut_into, part_of, next_part, area_count, area_of};
 ghost use Rattle.moves.specs.Internal.Orders.{next_area, AreaIn, piece_of, Chosen};
 
 use common::{min, pick};
@@ -22,7 +23,7 @@ const LISTED_AT_ONCE: usize = 8;
 pub const STORED_AT_ONCE: usize = 10;
 
 // How the samples of a piece are moved.
-#[derive(Clone, Copy)]
+#[derive(Clone, Copy, Debug, PartialEq, Eq)]
 pub enum Way {
     // Rows of one band, in which samples stand evenly.
     Rows,
@@ -121,11 +122,9 @@ impl Order {
         requires { (0 < self.rows.length) × (0 < self.columns.length) }
         ensures { result ≡ area_of self 0 }
     {
-        let rows = self.rows;
-        let columns = self.columns;
         Area {
-            rows: rows.part(0),
-            columns: columns.part(0),
+            rows: self.rows.part(0),
+            columns: self.columns.part(0),
         }
     }
 
@@ -134,15 +133,13 @@ impl Order {
         requires { AreaIn self.rows.length self.columns.length area }
         ensures { result ≡ next_area self area }
     {
-        let rows = area.rows;
         let columns = self.columns.next(area.columns);
-        if columns.from > 0 {
-            return Area { rows, columns };
-        }
-        Area {
-            rows: self.rows.next(rows),
-            columns,
-        }
+        let rows = if columns.from > 0 {
+            area.rows
+        } else {
+            self.rows.next(area.rows)
+        };
+        Area { rows, columns }
     }
 
     // Part p of the bands, of an area.
@@ -150,62 +147,29 @@ impl Order {
         requires { p * self.bands.most < self.bands.length }
         ensures { result ≡ piece_of self area p }
     {
-        let bands = self.bands;
-        let rows = area.rows;
-        let columns = area.columns;
         Piece {
-            bands: bands.part(p),
-            rows,
-            columns,
+            bands: self.bands.part(p),
+            rows: area.rows,
+            columns: area.columns,
         }
     }
 }
 
-// The order in which b bands, r rows and c columns of so many are moved together.
-fn ordered(
-    way: Way,
-    bands: usize,
-    b: usize,
-    rows: usize,
-    r: usize,
-    columns: usize,
-    c: usize,
-) -> Order
-    requires { (0 < bands) × (0 < b) × (0 < rows) × (0 < r) × (0 < columns) × (0 < c) }
-    ensures { result ≡ order_of way bands b rows r columns c }
+// How many listed bands are read pixel by pixel: all where they are few, else none. A number, as `choose` takes one.
+pub fn listed_together(asked: Option<&[u32]>) -> usize
+    ensures { 0 < result → ((bands_in asked.entry).all ≡ false) × (result ≡ length (bands_in asked.entry).list) }
 {
-    Order {
-        way,
-        bands: cut_into(bands, b),
-        rows: cut_into(rows, r),
-        columns: cut_into(columns, c),
+    match asked {
+        Some(list) if list.len() <= LISTED_AT_ONCE => list.len(),
+        _ => 0,
     }
-}
-
-// How many listed bands are read pixel by pixel: all where they are few, else none.
-pub fn listed_together(all: bool, count: usize) -> usize
-    ensures { 0 < result → (all ≡ false) × (result ≡ count) }
-{
-    if all {
-        return 0;
-    }
-    if count > LISTED_AT_ONCE {
-        return 0;
-    }
-    count
 }
 
 // Is a pixel longer than a line of the cache, with samples of whole bytes side by side?
 fn long_pixels(by: Strides, width: usize) -> bool
     ensures { result ≡ true → (by.band ≡ width) × (width % 8 ≡ 0) }
 {
-    if by.column <= CACHE_LINE {
-        return false;
-    }
-    if width % 8 != 0 {
-        return false;
-    }
-    by.band == width
+    by.column > CACHE_LINE && width % 8 == 0 && by.band == width
 }
 
 // How many columns of a band are moved together. Where samples of other bands stand between, in pixels that share
@@ -214,10 +178,7 @@ fn columns_together(by: Strides, width: usize, columns: usize) -> usize
     requires { (0 < by.column) × (0 < columns) }
     ensures { 0 < result }
 {
-    if by.column == width {
-        return columns;
-    }
-    if by.column > CACHE_LINE {
+    if by.column == width || by.column > CACHE_LINE {
         return columns;
     }
     PIECE / by.column
@@ -230,22 +191,13 @@ fn rows_together(by: Strides, width: usize, bands: usize, rows: usize) -> usize
     requires { 0 < rows }
     ensures { 0 < result }
 {
-    if bands == 1 {
-        return rows;
-    }
-    if by.row <= by.band {
+    if bands == 1 || by.row <= by.band {
         return rows;
     }
     if by.column == width {
-        if bands > FEW_BANDS {
-            return ROWS_AT_ONCE;
-        }
-        return 1;
+        return if bands > FEW_BANDS { ROWS_AT_ONCE } else { 1 };
     }
-    if by.row < PIECE {
-        return PIECE / by.row;
-    }
-    1
+    if by.row < PIECE { PIECE / by.row } else { 1 }
 }
 
 // The order for so many bands, rows and columns of a part. At most `together` bands are moved pixel by pixel.
@@ -262,13 +214,18 @@ pub fn choose(
 {
     let width = layout.nbpp as usize;
     let by = layout.strides();
-    if !layout.has_strides() {
-        return ordered(Way::Runs, bands, 1, rows, 1, columns, columns);
+    let (way, b, r, c) = if !layout.has_strides() {
+        (Way::Runs, 1, 1, columns)
+    } else if together > 0 && long_pixels(by, width) {
+        (Way::Pixels, together, 1, columns)
+    } else {
+        let r = rows_together(by, width, bands, rows);
+        (Way::Rows, 1, r, columns_together(by, width, columns))
+    };
+    Order {
+        way,
+        bands: cut_into(bands, b),
+        rows: cut_into(rows, r),
+        columns: cut_into(columns, c),
     }
-    if together > 0 && long_pixels(by, width) {
-        return ordered(Way::Pixels, bands, together, rows, 1, columns, columns);
-    }
-    let r = rows_together(by, width, bands, rows);
-    let c = columns_together(by, width, columns);
-    ordered(Way::Rows, bands, 1, rows, r, columns, c)
 }

@@ -1,44 +1,42 @@
-// What the programs print: text, numbers, bytes and the answers of reads.
+// What the programs print: bytes, and what a read answers. What takes several lines, or reads files, is a function with
+// the handle, as `main` has it: Display has no handle.
 #![tactic(auto)]
 
-use calls::Shape;
-
-const OUT: i32 = 1;
-
-const LETTERS: [u8; 4] = [b'B', b'P', b'R', b'S'];
-
-pub fn print_text(text: &[u8]) {
-    io::write_all(OUT, text);
-}
-
-// A number, and a space.
-pub fn print_number(n: u64) {
-    io::print_decimal(OUT, n);
-    print_text(b" ");
-}
+use calls::{Extent, Shape};
+use refusals::Refusal;
+use std::fmt;
 
 // Each byte in two hexadecimal digits.
-pub fn print_bytes(bytes: &[u8]) {
-    for i in 0..bytes.len() {
-        io::print_hex(OUT, bytes[i] as u64, 2);
+#[derive(Clone, Copy)]
+pub struct Hex<'a>(pub &'a [u8]);
+
+impl<'a> fmt::Display for Hex<'a> {
+    fn fmt<W: fmt::Write>(&self, f: &mut fmt::Formatter<W>) -> fmt::Result {
+        for byte in self.0 {
+            write!(f, "{byte:02x}")?;
+        }
+        Ok(())
     }
 }
 
-// The letter of mode i of B, P, R, S, and a space.
-pub fn print_letter(i: usize) {
-    if i < 4 {
-        let letter = [LETTERS[i]];
-        print_text(&letter);
-    }
-    print_text(b" ");
+// What a read answers, and the whole of its output: the number and the extent, zeros beside a refusal, then the bytes.
+#[derive(Clone, Copy)]
+pub struct ReadAnswer<'a> {
+    pub read: Result<Extent, Refusal>,
+    pub out: &'a [u8],
 }
 
-// The number and the shape of a read, and the whole of its output.
-pub fn print_read(shape: Shape, out: &[u8]) {
-    print_number(shape.number as u64);
-    print_number(shape.bands as u64);
-    print_number(shape.rows as u64);
-    print_number(shape.columns as u64);
-    print_bytes(out);
-    print_text(b"\n");
+impl<'a> fmt::Display for ReadAnswer<'a> {
+    fn fmt<W: fmt::Write>(&self, f: &mut fmt::Formatter<W>) -> fmt::Result {
+        let shape = Shape::from(self.read);
+        write!(
+            f,
+            "{} {} {} {} {}",
+            shape.number,
+            shape.bands,
+            shape.rows,
+            shape.columns,
+            Hex(self.out)
+        )
+    }
 }

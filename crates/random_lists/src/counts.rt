@@ -1,61 +1,71 @@
-// The counts of calls, by kind: each kind has its accepted calls and, next to them, its refused calls.
-use crate::numbers::sum;
-use calls::Answer;
+// The counts of calls, by kind.
+use refusals::Refusal;
+use std::fmt;
 
-pub const STARTS: usize = 0;
-
-pub const WRITES: usize = 2;
-
-pub const SKIPS: usize = 4;
-
-pub const PROGRESSES: usize = 6;
-
-pub const FINISHES: usize = 8;
-
-pub const WINDOWS: usize = 10;
-
-pub const PARTS: usize = 12;
-
-pub const DIFFERENCES: usize = 14;
-
-// The writes that are refused with 26.
-pub const UNFIT: usize = 15;
-
-pub fn add(counts: &mut [u64], i: usize, n: u64) {
-    if i >= counts.len() {
-        return;
-    }
-    counts[i] = sum(counts[i], n);
+// The accepted and the refused calls of a kind.
+#[derive(Clone, Copy, Default)]
+pub struct Tally {
+    accepted: usize,
+    refused: usize,
 }
 
-// One call more, accepted or refused.
-pub fn tally(counts: &mut [u64], accepted: usize, refused: usize, number: u32) {
-    if number == 0 {
-        add(counts, accepted, 1);
-        return;
+impl Tally {
+    // One call more.
+    pub fn add<T: Drop>(&mut self, answer: Result<T, Refusal>) {
+        match answer {
+            Ok(_) => self.accepted = self.accepted.saturating_add(1),
+            Err(_) => self.refused = self.refused.saturating_add(1),
+        }
     }
-    add(counts, refused, 1);
 }
 
-// One more, if a write is refused with 26.
-pub fn tally_unfit(counts: &mut [u64], number: u32) {
-    if number != 26 {
-        return;
-    }
-    add(counts, UNFIT, 1);
+#[derive(Clone, Copy, Default)]
+pub struct Counts {
+    pub starts: Tally,
+    pub writes: Tally,
+    // The writes that are refused with 26.
+    pub unfit: usize,
+    pub skips: Tally,
+    pub progresses: Tally,
+    pub finishes: Tally,
+    // The windows on the whole image, and on a part of it.
+    pub windows: Tally,
+    pub parts: Tally,
+    pub differences: usize,
 }
 
-// A difference, unless the answer has this number and these values.
-pub fn compare(counts: &mut [u64], a: Answer, number: u32, first: u64, second: u64) {
-    if a.number != number {
-        add(counts, DIFFERENCES, 1);
-        return;
+impl Counts {
+    pub fn differ(&mut self, n: usize) {
+        self.differences = self.differences.saturating_add(n);
     }
-    if a.first as u64 != first {
-        add(counts, DIFFERENCES, 1);
-        return;
+
+    // A difference, unless the answer is the plain frame's: the same value, or the same refusal.
+    pub fn compare<T: PartialEq + Drop>(
+        &mut self,
+        a: Result<T, Refusal>,
+        plain: Result<T, Refusal>,
+    ) {
+        if a != plain {
+            self.differ(1);
+        }
     }
-    if a.second as u64 != second {
-        add(counts, DIFFERENCES, 1);
+}
+
+fn write_tally<W: fmt::Write>(f: &mut fmt::Formatter<W>, calls: &str, t: Tally) -> fmt::Result {
+    writeln!(f, "{calls} accepted {}", t.accepted)?;
+    writeln!(f, "{calls} refused {}", t.refused)
+}
+
+impl fmt::Display for Counts {
+    fn fmt<W: fmt::Write>(&self, f: &mut fmt::Formatter<W>) -> fmt::Result {
+        write_tally(f, "starts", self.starts)?;
+        write_tally(f, "writes", self.writes)?;
+        writeln!(f, "of these with 26 {}", self.unfit)?;
+        write_tally(f, "skips", self.skips)?;
+        write_tally(f, "progress calls", self.progresses)?;
+        write_tally(f, "finishes", self.finishes)?;
+        write_tally(f, "windows", self.windows)?;
+        write_tally(f, "windows on a part", self.parts)?;
+        write!(f, "differences {}", self.differences)
     }
 }

@@ -1,88 +1,103 @@
-// Question 7 from document 01, "Where a sample lies": how many bytes of the image a window needs.
-use crate::numbers::{less, most, product, quotient, sum};
-use crate::picture::{Picture, actual_columns, actual_rows};
+// A window, and question 7 from document 01, "Where a sample lies": how many bytes of the image it needs.
+ghost use Rattle.std.specs.Prelude.{◌+◌, ◌<◌, ◌≤◌};
 
-// A rectangle of the picture, and whether all bands are asked for.
+use crate::picture::Picture;
+use layout::InterleaveMode;
+
+// A rectangle of the picture, and the bands that are asked for: all, or those of a list.
 #[derive(Clone, Copy)]
-pub struct Window {
-    pub row: u64,
-    pub column: u64,
-    pub rows: u64,
-    pub columns: u64,
-    pub all: bool,
+pub struct Window<'a> {
+    pub row: usize,
+    pub column: usize,
+    pub rows: usize,
+    pub columns: usize,
+    pub bands: Option<&'a [u32]>,
+    ghost start: { (row ≤ 12) × (column ≤ 12) },
+    ghost shape: { (rows ≤ 13) × (columns ≤ 13) },
 }
 
-// a * b + c.
-fn step(a: u64, b: u64, c: u64) -> u64 {
-    sum(product(a, b), c)
+impl Picture {
+    // Where the bytes of a band of a block begin: in S the blocks of a band stand together, else the bands of a block.
+    fn band_start(self, index: usize, b: usize) -> usize
+        requires { (index ≤ 195) × (b < self.bands) }
+        ensures { result ≤ 200000 }
+    {
+        match self.mode {
+            InterleaveMode::S => (b * self.blocks() + index) * self.band_bytes(),
+            _ => (index * self.bands + b) * self.band_bytes(),
+        }
+    }
+
+    // How many samples of a block in B, P or R stand before one, at byte multiples, and in S how many of its band.
+    fn samples_before(self, b: usize, r: usize, c: usize) -> usize
+        requires { (b ≤ 2) × (r ≤ 4) × (c ≤ 4) }
+        ensures { result ≤ 100 }
+    {
+        match self.mode {
+            InterleaveMode::B => (b * self.nppbv + r) * self.nppbh + c,
+            InterleaveMode::P => (r * self.nppbh + c) * self.bands + b,
+            InterleaveMode::R => (r * self.bands + b) * self.nppbh + c,
+            InterleaveMode::S => r * self.nppbh + c,
+        }
+    }
+
+    // The end of the last actual sample of a block, or where samples are packed the end of the last run's bytes.
+    fn block_end(self, row: usize, column: usize) -> usize
+        requires { (row ≤ 15) × (column ≤ 15) }
+    {
+        let index = row * self.across() + column;
+        let b = self.bands - 1;
+        if self.nbpp % 8 != 0 {
+            return self.band_start(index, b) + self.band_bytes();
+        }
+        let shape = self.shape(row, column);
+        let r = shape.rows.saturating_sub(1);
+        let c = shape.columns.saturating_sub(1);
+        let first = match self.mode {
+            InterleaveMode::S => self.band_start(index, b),
+            _ => self.band_start(index, 0),
+        };
+        first + (self.samples_before(b, r, c) + 1) * self.size()
+    }
 }
 
-// Where the bytes of a band of a block begin: in S the blocks of a band stand together, else the bands of a block.
-fn band_start(p: Picture, index: u64, b: u64) -> u64 {
-    if p.mode == 3 {
-        return product(step(b, product(p.across, p.down), index), p.band_bytes);
-    }
-    product(step(index, p.bands, b), p.band_bytes)
+// Does a length from `start` on cross block i of those that are so long?
+fn crosses(start: usize, length: usize, side: usize, i: usize) -> bool
+    requires positive { 0 < side }
+    requires small { (start ≤ 12) × (length ≤ 13) }
+{
+    start / side <= i && i <= (start + length).saturating_sub(1) / side
 }
 
-// How many samples of a block in B, P or R stand before one, at byte multiples.
-fn samples_before(p: Picture, b: u64, r: u64, c: u64) -> u64 {
-    if p.mode == 0 {
-        return step(step(b, p.nppbv, r), p.nppbh, c);
+impl<'a> Window<'a> {
+    // The bands that are asked for.
+    pub fn asked(self, p: Picture) -> &'a [u32] {
+        match self.bands {
+            Some(list) => list,
+            None => &[0, 1, 2][..p.bands],
+        }
     }
-    if p.mode == 1 {
-        return step(step(r, p.nppbh, c), p.bands, b);
-    }
-    step(step(r, p.bands, b), p.nppbh, c)
-}
 
-// The end of the last actual sample of a block, or where samples are packed the end of the last run's bytes.
-fn block_end(p: Picture, row: u64, column: u64) -> u64 {
-    let index = step(row, p.across, column);
-    let b = less(p.bands, 1);
-    let r = less(actual_rows(p, row), 1);
-    let c = less(actual_columns(p, column), 1);
-    if p.nbpp % 8 != 0 {
-        return sum(band_start(p, index, b), p.band_bytes);
+    pub fn samples(self, p: Picture) -> usize {
+        self.asked(p).len().saturating_mul(self.rows * self.columns)
     }
-    if p.mode == 3 {
-        return sum(
-            band_start(p, index, b),
-            step(step(r, p.nppbh, c), p.size, p.size),
-        );
-    }
-    sum(
-        band_start(p, index, 0),
-        step(samples_before(p, b, r, c), p.size, p.size),
-    )
-}
 
-// Does the window cross places from `start` to `start + length - 1` of blocks of so many places?
-fn crosses(start: u64, length: u64, side: u64, block: u64) -> bool {
-    if block < quotient(start, side) {
-        return false;
+    // How many bytes the window fills.
+    pub fn bytes(self, p: Picture) -> usize {
+        self.samples(p).saturating_mul(p.size())
     }
-    block <= quotient(less(sum(start, length), 1), side)
-}
 
-// The end of block i, sixteen in a row, if the window crosses it and it lies further, else the end so far.
-fn further_end(p: Picture, w: Window, i: u64, end: u64) -> u64 {
-    let row = i / 16;
-    let column = i % 16;
-    if !crosses(w.row, w.rows, p.nppbv, row) {
-        return end;
+    fn crosses(self, p: Picture, row: usize, column: usize) -> bool {
+        crosses(self.row, self.rows, p.nppbv, row)
+            && crosses(self.column, self.columns, p.nppbh, column)
     }
-    if !crosses(w.column, w.columns, p.nppbh, column) {
-        return end;
-    }
-    most(end, block_end(p, row, column))
-}
 
-// The end of the blocks that a window crosses.
-pub fn window_end(p: Picture, w: Window) -> u64 {
-    let mut end: u64 = 0;
-    for i in 0..256u64 {
-        end = further_end(p, w, i, end);
+    // The end of the blocks that the window crosses, of sixteen rows of sixteen blocks.
+    pub fn end(self, p: Picture) -> usize {
+        (0..256)
+            .filter(|&i| self.crosses(p, i / 16, i % 16))
+            .map(|i| p.block_end(i / 16, i % 16))
+            .max()
+            .unwrap_or(0)
     }
-    end
 }

@@ -1,130 +1,132 @@
 // A picture in plain numbers, worked out here, and its grid for the calls.
-use crate::numbers::{ceiling, less, min, product, small, sum};
-use crate::random::below;
+ghost use Rattle.std.specs.Prelude.{◌<◌, ◌≤◌};
+
+use crate::random::Random;
+use calls::Extent;
 use grid::{EdgeRule, Grid};
 use layout::InterleaveMode;
 
-// The fields of the grid; then the blocks across and down, the bytes of a sample, of a band of a block and of the
-// image.
-// The modes B, P, R, S are 0 to 3, the edge rules tight and full 0 and 1.
+// The fields of the grid.
 #[derive(Clone, Copy)]
 pub struct Picture {
-    pub nrows: u64,
-    pub ncols: u64,
-    pub bands: u64,
-    pub nbpp: u64,
-    pub mode: u64,
-    pub rule: u64,
-    pub nppbh: u64,
-    pub nppbv: u64,
-    pub across: u64,
-    pub down: u64,
-    pub size: u64,
-    pub band_bytes: u64,
-    pub image: u64,
+    pub nrows: usize,
+    pub ncols: usize,
+    pub bands: usize,
+    pub nbpp: usize,
+    pub mode: InterleaveMode,
+    pub rule: EdgeRule,
+    pub nppbh: usize,
+    pub nppbv: usize,
+    ghost sides: { (0 < nrows) × (nrows ≤ 12) × (0 < ncols) × (ncols ≤ 12) },
+    ghost samples: { (0 < bands) × (bands ≤ 3) × (0 < nbpp) × (nbpp ≤ 64) },
+    ghost blocks: { (0 < nppbh) × (nppbh ≤ 5) × (0 < nppbv) × (nppbv ≤ 5) },
 }
 
-const WIDTHS: [u64; 29] = [
-    1, 2, 3, 4, 5, 6, 7, 8, 9, 10, 11, 12, 13, 14, 15, 16, 24, 25, 26, 27, 28, 29, 30, 31, 32, 40,
-    48, 56, 64,
-];
+// 1 to 16, 24 to 32, 40, 48, 56 or 64.
+fn width(list: usize) -> usize
+    ensures { (0 < result) × (result ≤ 64) }
+{
+    match list % 29 {
+        k @ 0..16 => k + 1,
+        k @ 16..25 => k + 8,
+        k => 8 * (k - 20),
+    }
+}
 
-fn width(k: u64) -> u64 {
-    let w = (k % 29) as usize;
-    WIDTHS[w]
+// Of block i of those that are so long, how much is inside a side of the picture.
+fn inside(length: usize, i: usize, side: usize) -> usize
+    requires { (length ≤ 5) × (i ≤ 15) }
+    ensures { result ≤ length }
+{
+    length.min(side.saturating_sub(length * i))
 }
 
 // A side of 1 to 12, more often short than long.
-fn some_side(seed: &mut u64) -> u64 {
-    let most = sum(below(seed, 12), 1);
-    sum(below(seed, most), 1)
+fn some_side(random: &mut Random) -> usize
+    ensures { (0 < result) × (result ≤ 12) }
+{
+    let most = random.below(12) + 1;
+    random.below(most) + 1
 }
 
-fn picture_of(
-    nrows: u64,
-    ncols: u64,
-    bands: u64,
-    nbpp: u64,
-    mode: u64,
-    rule: u64,
-    nppbh: u64,
-    nppbv: u64,
-) -> Picture {
-    let across = ceiling(ncols, nppbh);
-    let down = ceiling(nrows, nppbv);
-    let band_bytes = ceiling(product(product(nppbh, nppbv), nbpp), 8);
-    Picture {
-        nrows,
-        ncols,
-        bands,
-        nbpp,
-        mode,
-        rule,
-        nppbh,
-        nppbv,
-        across,
-        down,
-        size: ceiling(nbpp, 8),
-        band_bytes,
-        image: product(product(product(across, down), bands), band_bytes),
+impl Picture {
+    // A picture of at most 12 rows and columns and 3 bands. The width, the mode and the edge rule go by the number of
+    // the list, so that 232 lists have each width in each mode under each rule.
+    pub fn some(random: &mut Random, list: usize) -> Self {
+        Picture {
+            nrows: some_side(random),
+            ncols: some_side(random),
+            bands: random.below(3) + 1,
+            nbpp: width(list),
+            mode: InterleaveMode::ALL[list / 29 % 4],
+            rule: EdgeRule::ALL[list / 116 % 2],
+            nppbh: random.below(5) + 1,
+            nppbv: random.below(5) + 1,
+        }
     }
-}
 
-// A picture of at most 12 rows and columns and 3 bands. The width, the mode and the edge rule go by the number of the
-// list, so that 232 lists have each width in each mode under each rule.
-pub fn some_picture(seed: &mut u64, list: u64) -> Picture {
-    let nrows = some_side(seed);
-    let ncols = some_side(seed);
-    let bands = sum(below(seed, 3), 1);
-    let nppbh = sum(below(seed, 5), 1);
-    let nppbv = sum(below(seed, 5), 1);
-    picture_of(
-        nrows,
-        ncols,
-        bands,
-        width(list),
-        list / 29 % 4,
-        list / 116 % 2,
-        nppbh,
-        nppbv,
-    )
-}
-
-fn mode_of(mode: u64) -> InterleaveMode {
-    match mode {
-        0 => InterleaveMode::B,
-        1 => InterleaveMode::P,
-        2 => InterleaveMode::R,
-        _ => InterleaveMode::S,
+    pub fn grid(self) -> Grid {
+        Grid::new(
+            self.nrows as u32,
+            self.ncols as u32,
+            self.bands as u32,
+            self.nbpp as u32,
+            self.mode,
+            self.rule,
+            self.nppbh as u32,
+            self.nppbv as u32,
+        )
     }
-}
 
-fn rule_of(rule: u64) -> EdgeRule {
-    match rule {
-        0 => EdgeRule::Tight,
-        _ => EdgeRule::Full,
+    // Blocks across. `down` stands beside it: one function for both would be given both sides at each call.
+    pub fn across(self) -> usize
+        ensures { result ≤ 12 }
+    {
+        self.ncols.div_ceil(self.nppbh)
     }
-}
 
-pub fn grid_of(p: Picture) -> Grid {
-    Grid::new(
-        small(p.nrows),
-        small(p.ncols),
-        small(p.bands),
-        small(p.nbpp),
-        mode_of(p.mode),
-        rule_of(p.rule),
-        small(p.nppbh),
-        small(p.nppbv),
-    )
-}
+    // Blocks down.
+    pub fn down(self) -> usize
+        ensures { result ≤ 12 }
+    {
+        self.nrows.div_ceil(self.nppbv)
+    }
 
-// The rows of a block that are inside the picture.
-pub fn actual_rows(p: Picture, row: u64) -> u64 {
-    min(p.nppbv, less(p.nrows, product(p.nppbv, row)))
-}
+    pub fn blocks(self) -> usize
+        ensures { result ≤ 144 }
+    {
+        self.across() * self.down()
+    }
 
-// The columns of a block that are inside the picture.
-pub fn actual_columns(p: Picture, column: u64) -> u64 {
-    min(p.nppbh, less(p.ncols, product(p.nppbh, column)))
+    // The bytes of a sample.
+    pub fn size(self) -> usize
+        ensures { (0 < result) × (result ≤ 8) }
+    {
+        self.nbpp.div_ceil(8)
+    }
+
+    // The bytes of a band of a block.
+    pub fn band_bytes(self) -> usize
+        ensures { result ≤ 200 }
+    {
+        (self.nppbh * self.nppbv * self.nbpp).div_ceil(8)
+    }
+
+    pub fn image_bytes(self) -> usize
+        ensures { result ≤ 86400 }
+    {
+        self.blocks() * self.bands * self.band_bytes()
+    }
+
+    // The bands of a block, and its rows and columns that are inside the picture.
+    pub fn shape(self, row: usize, column: usize) -> Extent
+        requires { (row ≤ 15) × (column ≤ 15) }
+        ensures { (result.bands ≤ 3) × (result.rows ≤ 5) × (result.columns ≤ 5) }
+    {
+        Extent {
+            bands: self.bands,
+            rows: inside(self.nppbv, row, self.nrows),
+            columns: inside(self.nppbh, column, self.ncols),
+        }
+    }
 }

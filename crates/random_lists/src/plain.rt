@@ -1,128 +1,104 @@
 // The plain frame: a number for each band, row and column of the picture, and the reached blocks, in tables of fixed
 // sides: 4 bands of 16 rows of 16 numbers, and 16 rows of 16 blocks.
-use crate::numbers::{byte_at, product, quotient, rest, small, sum};
-use crate::picture::{Picture, actual_columns, actual_rows};
+ghost use Rattle.std.specs.Prelude.{◌<◌, ◌≤◌};
+
+use crate::ends::Window;
+use crate::picture::Picture;
+use crate::questions::Write;
+
+#[derive(Drop)]
+pub struct Plain {
+    pub picture: Picture,
+    numbers: [u64; 1024],
+    reached: [bool; 256],
+}
 
 // Where the number of a band, row and column stands.
-pub fn place(b: u64, y: u64, x: u64) -> usize {
-    (b % 4 * 256 + y % 16 * 16 + x % 16) as usize
+fn place(b: usize, y: usize, x: usize) -> usize
+    ensures { result < 1024 }
+{
+    b % 4 * 256 + y % 16 * 16 + x % 16
 }
 
-fn set_number(numbers: &mut [u64], i: usize, v: u64) {
-    if i >= numbers.len() {
-        return;
-    }
-    numbers[i] = v;
+// The place of sample k in its rectangle, whose samples are listed band by band, row by row: band, row and column.
+fn sample_at(k: usize, rows: usize, columns: usize) -> (usize, usize, usize)
+    ensures { (result.1 ≤ rows) × (result.2 ≤ columns) }
+{
+    let (rows, columns) = (rows.max(1), columns.max(1));
+    let line = k / columns;
+    (line / rows, line % rows, k % columns)
 }
 
-fn next_byte(data: &[u8], i: u64, v: u64) -> u64 {
-    (v << 8) | byte_at(data, i as usize) as u64
-}
-
-// The big-endian number in `size` bytes from `at` on.
-pub fn sample(data: &[u8], at: u64, size: u64) -> u64 {
-    let mut v: u64 = 0;
-    for k in 0..size {
-        v = next_byte(data, sum(at, k), v);
-    }
-    v
+// The big-endian number in some bytes.
+fn number_of(sample: &[u8]) -> u64 {
+    sample.iter().fold(0, |v, &byte| (v << 8) | u64::from(byte))
 }
 
 // The low bits of a number.
-pub fn low_bits(v: u64, bits: u32) -> u64 {
-    if bits < 1 {
-        return v;
-    }
-    if 63 < bits {
-        return v;
-    }
-    (v << (64 - bits)) >> (64 - bits)
+fn low_bits(v: u64, bits: usize) -> u64
+    requires { (0 < bits) × (bits ≤ 64) }
+{
+    v & (u64::MAX >> (64 - bits))
 }
 
-// One more, if sample k has a bit above the picture's width.
-fn with_sample(data: &[u8], p: Picture, k: u64, count: u64) -> u64 {
-    let v = sample(data, product(k, p.size), p.size);
-    if v == low_bits(v, small(p.nbpp)) {
-        return count;
+impl Plain {
+    pub fn new(picture: Picture) -> Self {
+        Plain {
+            picture,
+            numbers: [0; 1024],
+            reached: [false; 256],
+        }
     }
-    sum(count, 1)
-}
 
-// How many samples have a bit above the picture's width.
-pub fn unfit(data: &[u8], p: Picture) -> u64 {
-    let samples = quotient(data.len() as u64, p.size);
-    let mut count: u64 = 0;
-    for k in 0..samples {
-        count = with_sample(data, p, k, count);
+    // Has a sample a bit above the picture's width?
+    pub fn has_unfit(&self, data: &[u8]) -> bool {
+        let p = self.picture;
+        data.chunks_exact(p.size())
+            .map(number_of)
+            .any(|v| v != low_bits(v, p.nbpp))
     }
-    count
-}
 
-// Sets the number of sample k of a block, which `data` has band by band, row by row.
-fn set_sample(numbers: &mut [u64], p: Picture, row: u64, column: u64, data: &[u8], k: u64) {
-    let rows = actual_rows(p, row);
-    let columns = actual_columns(p, column);
-    let line = quotient(k, columns);
-    let y = sum(product(p.nppbv, row), rest(line, rows));
-    let x = sum(product(p.nppbh, column), rest(k, columns));
-    let v = sample(data, product(k, p.size), p.size);
-    let i = place(quotient(line, rows), y, x);
-    set_number(numbers, i, low_bits(v, small(p.nbpp)));
-}
+    // Sets the numbers of a block, which `data` has band by band, row by row.
+    pub fn set_block(&mut self, w: Write, data: &[u8]) {
+        let p = self.picture;
+        for (k, sample) in data.chunks_exact(p.size()).enumerate() {
+            let (b, y, x) = sample_at(k, w.shape.rows, w.shape.columns);
+            let i = place(b, p.nppbv * w.row + y, p.nppbh * w.column + x);
+            self.numbers[i] = low_bits(number_of(sample), p.nbpp);
+        }
+    }
 
-// Sets the numbers of a block.
-pub fn set_block(numbers: &mut [u64], p: Picture, row: u64, column: u64, data: &[u8]) {
-    let lines = product(p.bands, actual_rows(p, row));
-    let samples = product(lines, actual_columns(p, column));
-    for k in 0..samples {
-        set_sample(numbers, p, row, column, data, k);
+    // The number of sample k of a window.
+    fn number(&self, w: Window<'_>, k: usize) -> u64 {
+        let (i, y, x) = sample_at(k, w.rows, w.columns);
+        let b = w.asked(self.picture).get(i).copied().unwrap_or(0);
+        self.numbers[place(b as usize, w.row + y, w.column + x)]
     }
-}
 
-// The block is reached.
-pub fn reach(reached: &mut [u8], row: u64, column: u64) {
-    let i = (row % 16 * 16 + column % 16) as usize;
-    if i >= reached.len() {
-        return;
+    // How many samples of a window's output are not the plain frame's numbers.
+    pub fn wrong_samples(&self, w: Window<'_>, out: &[u8]) -> usize {
+        out.chunks_exact(self.picture.size())
+            .take(w.samples(self.picture))
+            .enumerate()
+            .filter(|&(k, sample)| number_of(sample) != self.number(w, k))
+            .count()
     }
-    reached[i] = 1;
-}
 
-fn with_block(reached: &[u8], i: usize, count: u64) -> u64 {
-    sum(count, byte_at(reached, i) as u64)
-}
+    // The block is reached.
+    pub fn reach(&mut self, row: usize, column: usize) {
+        self.reached[row % 16 * 16 + column % 16] = true;
+    }
 
-// How many blocks are reached.
-pub fn count(reached: &[u8]) -> u64 {
-    let mut blocks: u64 = 0;
-    for i in 0..reached.len() {
-        blocks = with_block(reached, i, blocks);
+    // How many blocks are reached.
+    pub fn count(&self) -> usize {
+        self.reached.iter().filter(|&&reached| reached).count()
     }
-    blocks
-}
 
-// The block found before, else block i if it is inside the grid and not reached, else 256.
-fn found_or(found: u64, reached: &[u8], across: u64, down: u64, i: u64) -> u64 {
-    if found < 256 {
-        return found;
+    // The row and the column of the first block that is not reached, by rows, then columns.
+    pub fn first(&self) -> Option<(usize, usize)> {
+        let across = self.picture.across();
+        (0..self.picture.down())
+            .flat_map(|row| (0..across).map(move |column| (row, column)))
+            .find(|&(row, column)| !self.reached[row * 16 + column])
     }
-    if i / 16 >= down {
-        return 256;
-    }
-    if i % 16 >= across {
-        return 256;
-    }
-    if byte_at(reached, i as usize) == 1 {
-        return 256;
-    }
-    i
-}
-
-// The first block that is not reached, by rows, then columns: its row times 16 and its column, or 256.
-pub fn first(reached: &[u8], across: u64, down: u64) -> u64 {
-    let mut found: u64 = 256;
-    for i in 0..256 {
-        found = found_or(found, reached, across, down, i);
-    }
-    found
 }

@@ -1,81 +1,115 @@
-// The numbers that the plain frame gives to the calls, from document 01, "Questions before work", and document 02.
-use crate::numbers::{ceiling, product};
-use crate::picture::{Picture, actual_columns, actual_rows};
-use crate::plain::{first, unfit};
+// What the plain frame answers to the calls, from document 01, "Questions before work", and document 02.
+ghost use Rattle.std.specs.Prelude.{◌≤◌};
+
+use crate::ends::Window;
+use crate::frame::Frame;
+use crate::plain::Plain;
+use calls::Extent;
+use refusals::Refusal;
 
 // What a write is told: the block, and the shape of its data.
 #[derive(Clone, Copy)]
 pub struct Write {
-    pub row: u64,
-    pub column: u64,
-    pub bands: u64,
-    pub rows: u64,
-    pub columns: u64,
+    pub row: usize,
+    pub column: usize,
+    pub shape: Extent,
+    ghost block: { (row ≤ 13) × (column ≤ 13) },
+    ghost small: { (shape.bands ≤ 4) × (shape.rows ≤ 6) × (shape.columns ≤ 6) },
 }
 
-// Question 12, for so many mark words.
-pub fn progress_number(p: Picture, words: usize) -> u32 {
-    if (words as u64) < ceiling(product(p.across, p.down), 64) {
-        return 12;
+impl Write {
+    // How many samples the data has.
+    pub fn samples(self) -> usize
+        ensures { result ≤ 144 }
+    {
+        self.shape.bands * self.shape.rows * self.shape.columns
     }
-    0
 }
 
-// Questions 11 and 12, for an image of so many bytes and so many mark words.
-pub fn start_number(p: Picture, image: usize, words: usize) -> u32 {
-    if (image as u64) < p.image {
-        return 11;
+impl Plain {
+    // Question 12.
+    pub fn progress(&self, frame: &Frame<'_>) -> Result<usize, Refusal> {
+        if frame.marks.len() < self.picture.blocks().div_ceil(64) {
+            return Err(Refusal::MarksTooShort);
+        }
+        Ok(self.count())
     }
-    progress_number(p, words)
-}
 
-// The same, then question 6.
-pub fn skip_number(p: Picture, image: usize, words: usize, row: u64, column: u64) -> u32 {
-    let number = start_number(p, image, words);
-    if number != 0 {
-        return number;
+    // Questions 11 and 12.
+    pub fn start(&self, frame: &Frame<'_>) -> Result<(), Refusal> {
+        if frame.image.len() < self.picture.image_bytes() {
+            return Err(Refusal::ImageTooShort);
+        }
+        self.progress(frame)?;
+        Ok(())
     }
-    if row >= p.down {
-        return 6;
-    }
-    if column >= p.across {
-        return 6;
-    }
-    0
-}
 
-// The same, then questions 13, 14 and 26.
-pub fn write_number(p: Picture, image: usize, words: usize, w: Write, data: &[u8]) -> u32 {
-    let number = skip_number(p, image, words, w.row, w.column);
-    if number != 0 {
-        return number;
+    // The same, then question 6.
+    fn check_block(&self, frame: &Frame<'_>, row: usize, column: usize) -> Result<(), Refusal> {
+        self.start(frame)?;
+        if row >= self.picture.down() || column >= self.picture.across() {
+            return Err(Refusal::BlockOutsideGrid);
+        }
+        Ok(())
     }
-    if w.bands != p.bands {
-        return 13;
-    }
-    if w.rows != actual_rows(p, w.row) {
-        return 13;
-    }
-    if w.columns != actual_columns(p, w.column) {
-        return 13;
-    }
-    if data.len() as u64 != product(product(product(w.bands, w.rows), w.columns), p.size) {
-        return 14;
-    }
-    if unfit(data, p) > 0 {
-        return 26;
-    }
-    0
-}
 
-// Questions 11 and 12, then 15 of the reached blocks.
-pub fn finish_number(p: Picture, image: usize, words: usize, reached: &[u8]) -> u32 {
-    let number = start_number(p, image, words);
-    if number != 0 {
-        return number;
+    // The same; a block that is skipped is reached.
+    pub fn skip(&mut self, frame: &Frame<'_>, row: usize, column: usize) -> Result<(), Refusal> {
+        self.check_block(frame, row, column)?;
+        self.reach(row, column);
+        Ok(())
     }
-    if first(reached, p.across, p.down) < 256 {
-        return 15;
+
+    // The same, then questions 13, 14 and 26; a block that is written is reached.
+    pub fn write(&mut self, frame: &Frame<'_>, w: Write, data: &[u8]) -> Result<(), Refusal> {
+        let p = self.picture;
+        self.check_block(frame, w.row, w.column)?;
+        if w.shape != p.shape(w.row, w.column) {
+            return Err(Refusal::OtherShape);
+        }
+        if data.len() != w.samples() * p.size() {
+            return Err(Refusal::DataLength);
+        }
+        if self.has_unfit(data) {
+            return Err(Refusal::SampleBits);
+        }
+        self.set_block(w, data);
+        self.reach(w.row, w.column);
+        Ok(())
     }
-    0
+
+    // Questions 11 and 12, then 15 of the reached blocks.
+    pub fn finish(&self, frame: &Frame<'_>) -> Result<(), Refusal> {
+        self.start(frame)?;
+        match self.first() {
+            Some((row, column)) => Err(Refusal::UnmarkedBlock { row, column }),
+            None => Ok(()),
+        }
+    }
+
+    // Questions 10, 7, 8 and 9, for an image and an output of so many bytes.
+    pub fn window(&self, image: usize, w: Window<'_>, room: usize) -> Result<Extent, Refusal> {
+        let p = self.picture;
+        if w.rows < 1
+            || w.columns < 1
+            || w.row + w.rows > p.nrows
+            || w.column + w.columns > p.ncols
+        {
+            return Err(Refusal::WindowOutsidePicture);
+        }
+        if image < w.end(p) {
+            return Err(Refusal::ImageEnds);
+        }
+        if w.asked(p).iter().any(|&b| b as usize >= p.bands) {
+            return Err(Refusal::NoSuchBand);
+        }
+        if room < w.bytes(p) {
+            return Err(Refusal::OutputTooShort);
+        }
+        Ok(Extent {
+            bands: w.asked(p).len(),
+            rows: w.rows,
+            columns: w.columns,
+        })
+    }
 }

@@ -1,195 +1,134 @@
 // One random call that writes, skips, counts or finishes, beside the plain frame's.
-use crate::counts::{FINISHES, PROGRESSES, SKIPS, STARTS, WRITES, compare, tally, tally_unfit};
-use crate::numbers::{less, product, quotient, rest, small, sum};
-use crate::picture::{Picture, actual_columns, actual_rows, grid_of};
-use crate::plain::{count, first, low_bits, reach, set_block};
-use crate::questions::{
-    Write, finish_number, progress_number, skip_number, start_number, write_number,
-};
-use crate::random::{below, fill};
+ghost use Rattle.std.specs.Prelude.{◌+◌, ◌≤◌, length};
 
-// A start; the number that the plain frame gives to it.
-pub fn start(p: Picture, image: &mut [u8], marks: &mut [u64], counts: &mut [u64]) -> u32 {
-    let number = start_number(p, image.len(), marks.len());
-    let a = writing::start(image, marks, grid_of(p));
-    compare(counts, a, number, 0, 0);
-    tally(counts, STARTS, STARTS + 1, number);
-    number
-}
+use crate::frame::Frame;
+use crate::lists::Run;
+use crate::picture::Picture;
+use crate::questions::Write;
+use crate::random::Random;
+use calls::Extent;
+use refusals::Refusal;
 
 // A block row or column, now and then outside.
-fn some_block(seed: &mut u64, blocks: u64) -> u64 {
-    if below(seed, 15) == 0 {
-        return sum(blocks, below(seed, 2));
-    }
-    below(seed, blocks)
-}
-
-// The number, now and then one more.
-fn seldom_more(seed: &mut u64, n: u64) -> u64 {
-    if below(seed, 20) == 0 {
-        return sum(n, 1);
-    }
-    n
-}
-
-fn some_write(seed: &mut u64, p: Picture) -> Write {
-    let row = some_block(seed, p.down);
-    let column = some_block(seed, p.across);
-    let bands = seldom_more(seed, p.bands);
-    let rows = seldom_more(seed, actual_rows(p, row));
-    let columns = seldom_more(seed, actual_columns(p, column));
-    Write {
-        row,
-        column,
-        bands,
-        rows,
-        columns,
+fn some_block(random: &mut Random, blocks: usize) -> usize
+    requires { blocks ≤ 12 }
+    ensures { result ≤ 13 }
+{
+    if random.seldom(15) {
+        blocks + random.below(2)
+    } else {
+        random.below(blocks)
     }
 }
 
-fn write(
-    p: Picture,
-    w: Write,
-    data: &[u8],
-    image: &mut [u8],
-    marks: &mut [u64],
-    numbers: &mut [u64],
-    reached: &mut [u8],
-    counts: &mut [u64],
-) {
-    let number = write_number(p, image.len(), marks.len(), w, data);
-    let a = writing::encode_block(
-        image,
-        marks,
-        grid_of(p),
-        small(w.row),
-        small(w.column),
-        w.bands as usize,
-        w.rows as usize,
-        w.columns as usize,
-        data,
-    );
-    compare(counts, a, number, 0, 0);
-    tally(counts, WRITES, WRITES + 1, number);
-    tally_unfit(counts, number);
-    if number != 0 {
-        return;
-    }
-    set_block(numbers, p, w.row, w.column, data);
-    reach(reached, w.row, w.column);
-}
-
-// Byte i of samples, without the bits above the picture's width.
-fn fitting(p: Picture, i: u64, b: u8) -> u8 {
-    if rest(i, p.size) != 0 {
-        return b;
-    }
-    (low_bits(b as u64, small(rest(p.nbpp, 8))) % 256) as u8
+fn some_write(random: &mut Random, p: Picture) -> Write {
+    let row = some_block(random, p.down());
+    let column = some_block(random, p.across());
+    let actual = p.shape(row, column);
+    let shape = Extent {
+        bands: random.or_more(actual.bands),
+        rows: random.or_more(actual.rows),
+        columns: random.or_more(actual.columns),
+    };
+    Write { row, column, shape }
 }
 
 // Clears the bits above the picture's width.
 fn fit(p: Picture, data: &mut [u8]) {
-    for i in 0..data.len() {
-        data[i] = fitting(p, i as u64, data[i]);
-    }
-}
-
-fn with_bit(b: u8, bit: u64) -> u8 {
-    if bit > 7 {
-        return b;
-    }
-    b | (1 << bit)
-}
-
-// Sets, now and then, a bit above the picture's width in one of the samples of the first `length` bytes.
-fn seldom_unfit(seed: &mut u64, p: Picture, data: &mut [u8], length: usize) {
-    let used = rest(p.nbpp, 8);
+    let used = p.nbpp % 8;
     if used == 0 {
         return;
     }
-    if below(seed, 12) != 0 {
-        return;
-    }
-    let k = below(seed, quotient(length as u64, p.size));
-    let i = product(k, p.size) as usize;
-    let bit = sum(used, below(seed, less(8, used)));
-    if i < data.len() {
-        data[i] = with_bit(data[i], bit);
+    for sample in data.chunks_mut(p.size()) {
+        if let [first, ..] = sample {
+            *first &= 0xFF >> (8 - used);
+        }
     }
 }
 
-// A write of random samples, now and then of another shape or length, or with a sample that does not fit.
-pub fn random_write(
-    seed: &mut u64,
-    p: Picture,
-    image: &mut [u8],
-    marks: &mut [u64],
-    numbers: &mut [u64],
-    reached: &mut [u8],
-    counts: &mut [u64],
-) {
-    let mut data = [0u8; 1280];
-    fill(seed, &mut data);
-    let w = some_write(seed, p);
-    let samples = product(product(w.bands, w.rows), w.columns);
-    let length = seldom_more(seed, product(samples, p.size)) as usize;
-    if length > 1280 {
+// Sets, now and then, a bit above the picture's width in one of the samples.
+fn seldom_unfit(random: &mut Random, p: Picture, data: &mut [u8])
+    requires { length «data».old ≤ 1280 }
+{
+    let used = p.nbpp % 8;
+    if used == 0 || !random.seldom(12) {
         return;
     }
-    fit(p, &mut data);
-    seldom_unfit(seed, p, &mut data, length);
-    write(
-        p,
-        w,
-        &data[..length],
-        image,
-        marks,
-        numbers,
-        reached,
-        counts,
-    );
+    let k = random.below(data.len() / p.size());
+    let bit = used + random.below(8 - used);
+    if let Some(first) = data.get_mut(k * p.size()) {
+        *first |= 1 << bit;
+    }
 }
 
-pub fn random_skip(
-    seed: &mut u64,
-    p: Picture,
-    image: &[u8],
-    marks: &mut [u64],
-    reached: &mut [u8],
-    counts: &mut [u64],
-) {
-    let row = some_block(seed, p.down);
-    let column = some_block(seed, p.across);
-    let number = skip_number(p, image.len(), marks.len(), row, column);
-    let a = writing::skip_block(image, marks, grid_of(p), small(row), small(column));
-    compare(counts, a, number, 0, 0);
-    tally(counts, SKIPS, SKIPS + 1, number);
-    if number != 0 {
-        return;
+impl Run {
+    // Is the start accepted?
+    pub fn start(&mut self, frame: &mut Frame<'_>) -> bool {
+        let plain = self.plain.start(frame);
+        let grid = self.plain.picture.grid();
+        let a = writing::start(frame.image, frame.marks, grid);
+        self.counts.compare(a, plain);
+        self.counts.starts.add(plain);
+        plain.is_ok()
     }
-    reach(reached, row, column);
-}
 
-pub fn progress(p: Picture, marks: &[u64], reached: &[u8], counts: &mut [u64]) {
-    let number = progress_number(p, marks.len());
-    let a = writing::progress(marks, grid_of(p));
-    tally(counts, PROGRESSES, PROGRESSES + 1, number);
-    if number != 0 {
-        compare(counts, a, number, 0, 0);
-        return;
+    fn write_data(&mut self, frame: &mut Frame<'_>, w: Write, data: &[u8]) {
+        let plain = self.plain.write(frame, w, data);
+        let grid = self.plain.picture.grid();
+        let a = writing::encode_block(
+            frame.image,
+            frame.marks,
+            grid,
+            w.row as u32,
+            w.column as u32,
+            w.shape,
+            data,
+        );
+        self.counts.compare(a, plain);
+        self.counts.writes.add(plain);
+        if plain == Err(Refusal::SampleBits) {
+            self.counts.unfit = self.counts.unfit.saturating_add(1);
+        }
     }
-    compare(counts, a, 0, count(reached), 0);
-}
 
-pub fn finish(p: Picture, image: &[u8], marks: &[u64], reached: &[u8], counts: &mut [u64]) {
-    let number = finish_number(p, image.len(), marks.len(), reached);
-    let a = writing::finalize(image, marks, grid_of(p));
-    tally(counts, FINISHES, FINISHES + 1, number);
-    if number != 15 {
-        compare(counts, a, number, 0, 0);
-        return;
+    // A write of random samples, now and then of another shape or length, or with a sample that does not fit.
+    pub fn write(&mut self, frame: &mut Frame<'_>) {
+        let p = self.plain.picture;
+        let mut data = [0u8; 1280];
+        self.random.fill(&mut data);
+        let w = some_write(&mut self.random, p);
+        let length = self.random.or_more(w.samples() * p.size());
+        let data = &mut data[..length];
+        fit(p, data);
+        seldom_unfit(&mut self.random, p, data);
+        self.write_data(frame, w, data);
     }
-    let block = first(reached, p.across, p.down);
-    compare(counts, a, 15, block / 16, block % 16);
+
+    pub fn skip(&mut self, frame: &mut Frame<'_>) {
+        let p = self.plain.picture;
+        let row = some_block(&mut self.random, p.down());
+        let column = some_block(&mut self.random, p.across());
+        let plain = self.plain.skip(frame, row, column);
+        let image = &mut *frame.image;
+        let marks = &mut *frame.marks;
+        let a = writing::skip_block(image, marks, p.grid(), row as u32, column as u32);
+        self.counts.compare(a, plain);
+        self.counts.skips.add(plain);
+    }
+
+    pub fn progress(&mut self, frame: &Frame<'_>) {
+        let plain = self.plain.progress(frame);
+        let grid = self.plain.picture.grid();
+        let a = writing::progress(frame.marks, grid);
+        self.counts.compare(a, plain);
+        self.counts.progresses.add(plain);
+    }
+
+    pub fn finish(&mut self, frame: &Frame<'_>) {
+        let plain = self.plain.finish(frame);
+        let grid = self.plain.picture.grid();
+        let a = writing::finalize(frame.image, frame.marks, grid);
+        self.counts.compare(a, plain);
+        self.counts.finishes.add(plain);
+    }
 }

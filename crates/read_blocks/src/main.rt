@@ -3,176 +3,149 @@
 // tools/expected_blocks.py works out what it must print.
 #![tactic(auto)]
 
+ghost use Rattle.std.specs.Prelude.{◌≤◌};
+
 use grid::{EdgeRule, Grid};
 use layout::InterleaveMode;
-use printing::{print_bytes, print_letter, print_number, print_read, print_text};
+use printing::{Hex, ReadAnswer};
+use refusals::answer_number;
+use std::fmt::Display;
+use std::io;
 
 const WIDTHS: [u32; 11] = [1, 4, 8, 11, 12, 16, 24, 31, 32, 40, 64];
 
-fn mode(i: usize) -> InterleaveMode {
-    match i {
-        0 => InterleaveMode::B,
-        1 => InterleaveMode::P,
-        2 => InterleaveMode::R,
-        _ => InterleaveMode::S,
-    }
-}
-
-fn rule(edges: usize) -> EdgeRule {
-    match edges {
-        0 => EdgeRule::Tight,
-        _ => EdgeRule::Full,
-    }
-}
-
-// Picture 3 rows by 5 columns, blocks 2 rows by 4 columns, 2 bands.
-fn picture(edges: usize, i: usize, width: u32) -> Grid {
-    Grid::new(3, 5, 2, width, mode(i), rule(edges), 4, 2)
-}
-
 // The image's bytes: any numbers will do, if no two places look alike.
-fn fill(image: &mut [u8]) {
-    let mut x: u32 = 7;
-    for i in 0..image.len() {
-        x = (x % 65536 * 75 + 74) % 65537;
-        image[i] = (x % 256) as u8;
-    }
-}
-
-fn print_rule(edges: usize) {
-    if edges == 0 {
-        print_text(b"tight ");
-    } else {
-        print_text(b"full ");
-    }
-}
-
-fn print_mode(i: usize, width: u32) {
-    print_letter(i);
-    print_number(width as u64);
-}
-
-fn print_block(image: &[u8], edges: usize, i: usize, width: u32, row: u32, column: u32) {
-    print_rule(edges);
-    print_mode(i, width);
-    print_number(row as u64);
-    print_number(column as u64);
-    let mut out = [0xAAu8; 130];
-    let none: [u32; 0] = [];
-    let grid = picture(edges, i, width);
-    let shape = reader::read_block(image, grid, row, column, 0, true, &none, &mut out);
-    print_read(shape, &out);
-}
-
-fn every_block(image: &[u8], edges: usize, i: usize, width: u32) {
-    for k in 0..4 {
-        print_block(image, edges, i, width, k / 2, k % 2);
-    }
-}
-
-fn every_mode(image: &[u8], edges: usize, width: u32) {
-    for i in 0..4 {
-        every_block(image, edges, i, width);
-    }
-}
-
-fn every_width(image: &[u8], edges: usize) {
-    for k in 0..11 {
-        every_mode(image, edges, WIDTHS[k]);
-    }
-}
-
-// The lower right block in mode P.
-fn ask(
-    label: &[u8],
-    image: &[u8],
-    edges: usize,
-    width: u32,
-    row: u32,
-    level: u32,
-    list: &[u32],
-    out: &mut [u8],
-) {
-    print_rule(edges);
-    print_text(label);
-    let grid = picture(edges, 1, width);
-    let shape = reading::decode_block(image, grid, row, 1, level, false, list, out);
-    print_read(shape, out);
-}
-
-fn ask_bands(image: &[u8], edges: usize) {
-    let mut out = [0xAAu8; 9];
-    let none: [u32; 0] = [];
-    ask(b"empty list ", image, edges, 12, 1, 0, &none, &mut out);
-    let three = [1, 0, 1];
-    ask(b"bands 1 0 1 ", image, edges, 12, 1, 0, &three, &mut out);
-    let mut short = [0xAAu8; 5];
-    ask(
-        b"one byte of output too few ",
-        image,
-        edges,
-        12,
-        1,
-        0,
-        &three,
-        &mut short,
-    );
-    let high = [0, 2];
-    ask(b"band 2 ", image, edges, 12, 1, 0, &high, &mut short);
-    ask(b"level 1 ", image, edges, 12, 1, 1, &high, &mut short);
-    ask(b"block row 2 ", image, edges, 12, 2, 0, &high, &mut short);
-    ask(b"width 17 ", image, edges, 17, 1, 0, &high, &mut short);
-}
-
-// Only the first n bytes of the image are there.
-fn ask_front(label: &[u8], image: &[u8], n: usize, edges: usize, width: u32) {
-    if image.len() < n {
-        return;
-    }
-    let mut out = [0xAAu8; 5];
-    let both = [0, 1];
-    ask(label, &image[..n], edges, width, 1, 0, &both, &mut out);
-}
-
-fn print_whole(image: &[u8], edges: usize, i: usize, row: u32, column: u32) {
-    print_rule(edges);
-    print_text(b"whole ");
-    print_mode(i, 12);
-    print_number(row as u64);
-    print_number(column as u64);
-    let grid = picture(edges, i, 12);
-    print_number(reading::whole::whole_number(image, grid, row, column) as u64);
-    let part = reading::whole::whole_block(image, grid, row, column);
-    print_bytes(part);
-    print_text(b"\n");
-}
-
-// At 8 bits the block's last sample is byte 49; at 12 bits its last run ends with byte 95.
-fn ask_fronts(image: &[u8], edges: usize) {
-    ask_front(b"49 bytes ", image, 49, edges, 8);
-    ask_front(b"50 bytes ", image, 50, edges, 8);
-    ask_front(b"95 bytes ", image, 95, edges, 12);
-    ask_front(b"96 bytes ", image, 96, edges, 12);
-}
-
-fn print_wholes(image: &[u8], edges: usize) {
-    print_whole(image, edges, 0, 0, 1);
-    print_whole(image, edges, 1, 1, 1);
-    print_whole(image, edges, 2, 1, 0);
-    print_whole(image, edges, 3, 1, 1);
-    print_whole(image, edges, 0, 0, 2);
-}
-
-fn under_rule(image: &[u8], edges: usize) {
-    every_width(image, edges);
-    ask_bands(image, edges);
-    ask_fronts(image, edges);
-    print_wholes(image, edges);
-}
-
-fn main() {
+fn image() -> [u8; 512] {
     let mut image = [0u8; 512];
-    fill(&mut image);
-    under_rule(&image, 0);
-    under_rule(&image, 1);
+    let mut x: u32 = 7;
+    for byte in image.iter_mut() {
+        x = (x % 65536 * 75 + 74) % 65537;
+        *byte = (x % 256) as u8;
+    }
+    image
+}
+
+// A picture of 3 rows by 5 columns and 2 bands, in blocks of 2 rows by 4 columns.
+#[derive(Clone, Copy)]
+struct Picture<'a> {
+    image: &'a [u8],
+    edges: EdgeRule,
+}
+
+impl<'a> Picture<'a> {
+    fn grid(self, mode: InterleaveMode, width: u32) -> Grid {
+        Grid::new(3, 5, 2, width, mode, self.edges, 4, 2)
+    }
+
+    fn print_block(
+        self,
+        rt: &impl Print,
+        mode: InterleaveMode,
+        width: u32,
+        row: u32,
+        column: u32,
+    ) -> io::Result<()> {
+        let mut out = [0xAAu8; 130];
+        let grid = self.grid(mode, width);
+        let read = reader::read_block(self.image, grid, row, column, 0, None, &mut out);
+        let answer = ReadAnswer { read, out: &out };
+        println!(rt; "{} {mode} {width} {row} {column} {answer}", self.edges)
+    }
+
+    fn print_blocks(self, rt: &impl Print) -> io::Result<()> {
+        for width in WIDTHS {
+            for mode in InterleaveMode::ALL {
+                for (row, column) in [(0, 0), (0, 1), (1, 0), (1, 1)] {
+                    self.print_block(rt, mode, width, row, column)?;
+                }
+            }
+        }
+        Ok(())
+    }
+
+    // Listed bands of a block of the right column in mode P, into an output of so many bytes.
+    fn ask(
+        self,
+        rt: &impl Print,
+        label: impl Display + Drop,
+        width: u32,
+        row: u32,
+        level: u32,
+        bands: &[u32],
+        room: usize,
+    ) -> io::Result<()>
+        requires { room ≤ 9 }
+    {
+        let mut out = [0xAAu8; 9];
+        let out = &mut out[..room];
+        let grid = self.grid(InterleaveMode::P, width);
+        let read = reading::decode_block(self.image, grid, row, 1, level, Some(bands), out);
+        println!(rt; "{} {label} {}", self.edges, ReadAnswer { read, out })
+    }
+
+    fn ask_bands(self, rt: &impl Print) -> io::Result<()> {
+        let three = [1, 0, 1];
+        self.ask(rt, "empty list", 12, 1, 0, &[], 9)?;
+        self.ask(rt, "bands 1 0 1", 12, 1, 0, &three, 9)?;
+        self.ask(rt, "one byte of output too few", 12, 1, 0, &three, 5)?;
+        let high = [0, 2];
+        self.ask(rt, "band 2", 12, 1, 0, &high, 5)?;
+        self.ask(rt, "level 1", 12, 1, 1, &high, 5)?;
+        self.ask(rt, "block row 2", 12, 2, 0, &high, 5)?;
+        self.ask(rt, "width 17", 17, 1, 0, &high, 5)
+    }
+
+    // Only the first bytes of the image are there. At 8 bits the block's last sample is byte 49; at 12 bits its last
+    // run ends with byte 95.
+    fn ask_fronts(self, rt: &impl Print) -> io::Result<()> {
+        for (bytes, width) in [(49, 8), (50, 8), (95, 12), (96, 12)] {
+            if let Some(image) = self.image.get(..bytes) {
+                let front = Picture { image, ..self };
+                let label = format_args!("{bytes} bytes");
+                front.ask(rt, label, width, 1, 0, &[0, 1], 5)?;
+            }
+        }
+        Ok(())
+    }
+
+    fn print_whole(
+        self,
+        rt: &impl Print,
+        mode: InterleaveMode,
+        row: u32,
+        column: u32,
+    ) -> io::Result<()> {
+        let grid = self.grid(mode, 12);
+        let found = reading::whole::find_whole(self.image, grid, row, column);
+        let part = reading::whole::whole_block(self.image, grid, row, column);
+        println!(rt;
+            "{} whole {mode} 12 {row} {column} {} {}",
+            self.edges,
+            answer_number(&found),
+            Hex(part)
+        )
+    }
+
+    fn print_wholes(self, rt: &impl Print) -> io::Result<()> {
+        self.print_whole(rt, InterleaveMode::B, 0, 1)?;
+        self.print_whole(rt, InterleaveMode::P, 1, 1)?;
+        self.print_whole(rt, InterleaveMode::R, 1, 0)?;
+        self.print_whole(rt, InterleaveMode::S, 1, 1)?;
+        self.print_whole(rt, InterleaveMode::B, 0, 2)
+    }
+}
+
+fn main(rt: HostRuntime) -> io::Result<()> {
+    let image = image();
+    for edges in EdgeRule::ALL {
+        let picture = Picture {
+            image: &image,
+            edges,
+        };
+        picture.print_blocks(&rt)?;
+        picture.ask_bands(&rt)?;
+        picture.ask_fronts(&rt)?;
+        picture.print_wholes(&rt)?;
+    }
+    Ok(())
 }

@@ -1,16 +1,22 @@
 // A reader holds the image slice and its grid together. Each of its calls asks all the questions of the entry point
 // that it stands over, 1 to 4 about the grid first, so a reader of a refused grid refuses every read. `check` tells
-// the grid's number.
+// of the grid.
 #![tactic(auto)]
 
-ghost use Rattle.std.specs.Prelude.{◌≡◌, ◌+◌, length};
-ghost use Rattle.calls.specs.Orders.{rectangle, whole_number};
+ghost use Rattle.std.specs.Prelude.{◌≡◌, ◌+◌, length, IfOk};
+ghost use Rattle.refusals.specs.Refusals.{answer_number};
+ghost use Rattle.layout.specs.Bands.{bands_in};
 ghost use Rattle.grid.specs.Check.{grid_number};
-ghost use Rattle.layout.specs.Bands.{bands_of};
+ghost use Rattle.grid.specs.Internal.BlockLayouts.{whole_span};
+ghost use Rattle.calls.specs.Orders.{rectangle, whole_number};
 ghost use Rattle.calls.specs.Reads.{block_read, whole_block, whole_at, window, filled_with};
+ghost use Rattle.calls.specs.Results.{shape_of};
 
-use calls::Shape;
-use grid::Grid;
+use calls::Extent;
+use grid::places::Span;
+use grid::{AcceptedGrid, Grid};
+use refusals::Refusal;
+use windows::Rectangle;
 
 #[derive(Clone, Copy)]
 pub struct Reader<'a> {
@@ -25,9 +31,10 @@ impl<'a> Reader<'a> {
         Reader { image, grid }
     }
 
-    // The number of the grid: that of the first "no" of questions 1 to 4, or 0.
-    pub fn check(self) -> u32
-        ensures { result ≡ grid_number self.entry.grid }
+    // Questions 1 to 4.
+    pub fn check(self) -> Result<AcceptedGrid, Refusal>
+        ensures number { answer_number result ≡ grid_number self.entry.grid }
+        ensures same { IfOk result (λ a. a.grid ≡ self.entry.grid) }
     {
         self.grid.check()
     }
@@ -38,13 +45,12 @@ impl<'a> Reader<'a> {
         block_row: u32,
         block_col: u32,
         resolution_level: u32,
-        all: bool,
-        bands: &[u32],
+        asked: Option<&[u32]>,
         out: &mut [u8],
-    ) -> Shape
-        ensures { filled_with result out.new
+    ) -> Result<Extent, Refusal>
+        ensures { filled_with (shape_of result) out.new
             ≡ block_read self.entry.grid self.entry.image.now block_row block_col resolution_level
-            (bands_of all bands.now) out.old }
+            (bands_in asked.entry) out.old }
     {
         reading::decode_block(
             self.image,
@@ -52,8 +58,7 @@ impl<'a> Reader<'a> {
             block_row,
             block_col,
             resolution_level,
-            all,
-            bands,
+            asked,
             out,
         )
     }
@@ -61,29 +66,23 @@ impl<'a> Reader<'a> {
     // The samples of a rectangle of the picture, as `windows::read_window` gives them.
     pub fn read_window(
         self,
-        row: u32,
-        column: u32,
-        rows: u32,
-        columns: u32,
-        all: bool,
-        bands: &[u32],
+        area: Rectangle,
+        asked: Option<&[u32]>,
         out: &mut [u8],
-    ) -> Shape
-        ensures { filled_with result out.new
-            ≡ window self.entry.grid self.entry.image.now
-            (rectangle row column rows columns (bands_of all bands.now)) out.old }
+    ) -> Result<Extent, Refusal>
+        ensures { filled_with (shape_of result) out.new ≡ window self.entry.grid self.entry.image.now
+            (rectangle area.row area.column area.rows area.columns (bands_in asked.entry)) out.old }
     {
-        windows::read_window(
-            self.image, self.grid, row, column, rows, columns, all, bands, out,
-        )
+        windows::read_window(self.image, self.grid, area, asked, out)
     }
 
-    // The number of `whole_block` on the same inputs.
-    pub fn whole_number(self, block_row: u32, block_col: u32) -> u32
-        ensures { result
+    // Where the whole nominal block lies in the image.
+    pub fn find_whole(self, block_row: u32, block_col: u32) -> Result<Span, Refusal>
+        ensures number { answer_number result
             ≡ whole_number self.entry.grid (length self.entry.image.now) block_row block_col }
+        ensures span { IfOk result (λ s. s ≡ whole_span self.entry.grid block_row block_col) }
     {
-        reading::whole::whole_number(self.image, self.grid, block_row, block_col)
+        reading::whole::find_whole(self.image, self.grid, block_row, block_col)
     }
 
     // The bytes of the whole nominal block: that part of the image itself, and no copy of it.
@@ -104,13 +103,11 @@ pub fn read_block(
     block_row: u32,
     block_col: u32,
     resolution_level: u32,
-    all: bool,
-    bands: &[u32],
+    asked: Option<&[u32]>,
     out: &mut [u8],
-) -> Shape
-    ensures { filled_with result out.new
-        ≡ block_read grid image.now block_row block_col resolution_level
-        (bands_of all bands.now) out.old }
+) -> Result<Extent, Refusal>
+    ensures { filled_with (shape_of result) out.new
+        ≡ block_read grid image.now block_row block_col resolution_level (bands_in asked.entry) out.old }
 {
-    Reader::new(image, grid).decode_block(block_row, block_col, resolution_level, all, bands, out)
+    Reader::new(image, grid).decode_block(block_row, block_col, resolution_level, asked, out)
 }

@@ -1,56 +1,54 @@
-// Reading blocks: `decode_block`, and the whole block as a part of the image.
+// Reading blocks: `decode_block`, and the whole block as a part of the image. Parameters as in the Rust, a rule.
 #![tactic(auto)]
 
-ghost use Rattle.std.specs.Prelude.{◌≡◌, length};
-ghost use Rattle.layout.specs.Bands.{bands_of};
+ghost use Rattle.std.specs.Prelude.{◌≡◌, length, IfOk};
+ghost use Rattle.refusals.specs.Refusals.{answer_number};
+ghost use Rattle.layout.specs.Bands.{bands_in};
+ghost use Rattle.grid.specs.Internal.Blocks.{IsBlock};
 ghost use Rattle.calls.specs.Orders.{block_number};
 ghost use Rattle.calls.specs.Reads.{filled_with, block_read};
+ghost use Rattle.calls.specs.Results.{shape_of};
 
-use calls::{Shape, refused};
+use calls::Extent;
 use common::product_fits;
-use grid::Grid;
+use grid::{Grid, GridBlock};
 use layout::bands::{band_count, bands_below};
 use moves::part::read_planes;
+use refusals::Refusal;
 
 pub mod whole;
 
-// The questions of a block read, for an image of so many bytes and an output of so many.
-fn block_number(
+// The questions of a block read, for an image of so many bytes and an output of so many: the block that is read.
+fn find_block(
     image: usize,
     grid: Grid,
     block_row: u32,
     block_col: u32,
     resolution_level: u32,
-    all: bool,
-    bands: &[u32],
+    asked: Option<&[u32]>,
     room: usize,
-) -> u32
-    ensures { result ≡ block_number grid image block_row block_col resolution_level
-        (bands_of all bands.now) room }
+) -> Result<GridBlock, Refusal>
+    ensures number { answer_number result
+        ≡ block_number grid image block_row block_col resolution_level (bands_in asked.entry) room }
+    ensures block { IfOk result (IsBlock grid block_row block_col) }
 {
-    let number = grid.check();
-    if number != 0 {
-        return number;
-    }
+    let grid = grid.check()?;
     if resolution_level != 0 {
-        return 5;
+        return Err(Refusal::ResolutionLevel);
     }
-    if !grid.has_block(block_row, block_col) {
-        return 6;
+    let block = grid.block(block_row, block_col)?;
+    if image < block.end() {
+        return Err(Refusal::ImageEnds);
     }
-    let row = block_row as usize;
-    let column = block_col as usize;
-    if image < grid.block_end(row, column) {
-        return 7;
+    let bands = grid.grid.bands;
+    if !bands_below(bands, asked) {
+        return Err(Refusal::NoSuchBand);
     }
-    if !bands_below(grid.bands, all, bands) {
-        return 8;
+    let plane = block.rows() * block.columns() * grid.sample_bytes();
+    if !product_fits(band_count(bands, asked), plane, room) {
+        return Err(Refusal::OutputTooShort);
     }
-    let plane = grid.actual_rows(row) * grid.actual_columns(column) * grid.sample_bytes();
-    if !product_fits(band_count(grid.bands, all, bands), plane, room) {
-        return 9;
-    }
-    0
+    Ok(block)
 }
 
 // The samples of a block: the bands asked for, row by row, each sample in its big-endian bytes.
@@ -60,33 +58,26 @@ pub fn decode_block(
     block_row: u32,
     block_col: u32,
     resolution_level: u32,
-    all: bool,
-    bands: &[u32],
+    asked: Option<&[u32]>,
     out: &mut [u8],
-) -> Shape
-    ensures { filled_with result out.new
-        ≡ block_read grid image.now block_row block_col resolution_level
-        (bands_of all bands.now) out.old }
+) -> Result<Extent, Refusal>
+    ensures { filled_with (shape_of result) out.new
+        ≡ block_read grid image.now block_row block_col resolution_level (bands_in asked.entry) out.old }
 {
-    let number = block_number(
+    let block = find_block(
         image.len(),
         grid,
         block_row,
         block_col,
         resolution_level,
-        all,
-        bands,
+        asked,
         out.len(),
-    );
-    if number != 0 {
-        return refused(number);
-    }
-    let layout = grid.block_layout(block_row as usize, block_col as usize);
-    read_planes(image, layout, all, bands, out);
-    Shape {
-        number: 0,
-        bands: band_count(grid.bands, all, bands),
+    )?;
+    let layout = block.layout();
+    read_planes(image, layout, asked, out);
+    Ok(Extent {
+        bands: band_count(grid.bands, asked),
         rows: layout.rows,
         columns: layout.columns,
-    }
+    })
 }

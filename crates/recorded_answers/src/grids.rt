@@ -1,68 +1,56 @@
-// The grid of a record, and sizes from document 01, "Where a sample lies".
-use crate::parts::{product, sum, word_at};
+// The grid of a record, and sizes from document 01, "Where a sample lies". A size that is too large for its type is
+// the largest number.
+use crate::records::Fault;
 use grid::{EdgeRule, Grid};
 use layout::InterleaveMode;
 
-// Is IMODE B, P, R or S in the grid that stands at `at`?
-pub fn is_mode(data: &[u8], at: usize) -> bool {
-    match word_at(data, sum(at, 16)) {
-        66 | 80 | 82 | 83 => true,
-        _ => false,
+// IMODE by the letter's code.
+fn mode_of(letter: u32) -> Result<InterleaveMode, Fault> {
+    match char::from_u32(letter) {
+        Some('B') => Ok(InterleaveMode::B),
+        Some('P') => Ok(InterleaveMode::P),
+        Some('R') => Ok(InterleaveMode::R),
+        Some('S') => Ok(InterleaveMode::S),
+        _ => Err(Fault::NoMode),
     }
 }
 
-// IMODE of the grid that stands at `at`.
-pub fn mode_at(data: &[u8], at: usize) -> InterleaveMode {
-    match word_at(data, sum(at, 16)) {
-        66 => InterleaveMode::B,
-        80 => InterleaveMode::P,
-        82 => InterleaveMode::R,
-        _ => InterleaveMode::S,
-    }
-}
-
-// The grid that stands at `at`; the original has the rule tight.
-pub fn grid_at(data: &[u8], at: usize) -> Grid {
-    Grid {
-        nrows: word_at(data, at),
-        ncols: word_at(data, sum(at, 4)),
-        bands: word_at(data, sum(at, 8)),
-        nbpp: word_at(data, sum(at, 12)),
-        imode: mode_at(data, at),
+// The grid in nine words; the original has the rule tight.
+pub fn grid_of(words: [u32; 9]) -> Result<Grid, Fault> {
+    let [nrows, ncols, bands, nbpp, letter, nppbh, nppbv, nbpr, nbpc] = words;
+    Ok(Grid {
+        nrows,
+        ncols,
+        bands,
+        nbpp,
+        imode: mode_of(letter)?,
         edges: EdgeRule::Tight,
-        nppbh: word_at(data, sum(at, 20)),
-        nppbv: word_at(data, sum(at, 24)),
-        nbpr: word_at(data, sum(at, 28)),
-        nbpc: word_at(data, sum(at, 32)),
-    }
+        nppbh,
+        nppbv,
+        nbpr,
+        nbpc,
+    })
 }
 
 fn blocks(grid: Grid) -> usize {
-    product(grid.nbpr as usize, grid.nbpc as usize)
+    grid.nbpr as usize * grid.nbpc as usize
 }
 
 // Bytes of a sample in lent data.
 pub fn sample_bytes(grid: Grid) -> usize {
-    sum(grid.nbpp as usize, 7) / 8
+    (grid.nbpp as usize).div_ceil(8)
 }
 
 // Bytes of the image.
 pub fn image_bytes(grid: Grid) -> usize {
-    let samples = product(grid.nppbh as usize, grid.nppbv as usize);
-    let band_bytes = sum(product(samples, grid.nbpp as usize), 7) / 8;
-    product(product(blocks(grid), grid.bands as usize), band_bytes)
+    let samples = grid.nppbh as usize * grid.nppbv as usize;
+    let band_bytes = samples.saturating_mul(grid.nbpp as usize).div_ceil(8);
+    blocks(grid)
+        .saturating_mul(grid.bands as usize)
+        .saturating_mul(band_bytes)
 }
 
 // Words that hold the marks.
 pub fn mark_words(grid: Grid) -> usize {
-    sum(blocks(grid), 63) / 64
-}
-
-// Records of a mask table.
-pub fn mask_records(grid: Grid) -> usize {
-    let m = grid.imode;
-    match m {
-        InterleaveMode::S => product(blocks(grid), grid.bands as usize),
-        _ => blocks(grid),
-    }
+    blocks(grid).div_ceil(64)
 }

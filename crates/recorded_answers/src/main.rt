@@ -6,24 +6,22 @@ mod answers;
 mod counts;
 mod frames;
 mod grids;
+mod kinds;
 mod masks;
-mod parts;
 mod reads;
 mod records;
 mod reorderings;
 mod replay;
+mod words;
 
-use crate::replay::replay_file;
+use std::io;
+use std::io::Read;
 
 // The longest file, and one byte more by which a longer file is known.
-const ROOM: usize = 600_001;
+const ROOM: u64 = 600_001;
 
-fn read_and_replay(data: &mut [u8]) {
-    let n = io::read_full(0, data);
-    replay_file(&data[..n]);
-}
-
-fn main() {
-    let mut data = [0u8; ROOM];
-    read_and_replay(&mut data);
+fn main(rt: HostRuntime) -> io::Result<()> {
+    let mut data = Vec::new(rt.alloc());
+    rt.reader().take(ROOM).read_to_end(&mut data)?;
+    replay::replay_file(&rt, data.as_slice())
 }

@@ -1,29 +1,33 @@
 // Records of the image data mask table. Each answers whether the call gave what is recorded.
-use crate::answers::{
-    Given, WORD_BEFORE, counted, input_of, no_values, output_of, same, same_answer, wrong_words,
-};
-use crate::grids::mask_records;
-use crate::parts::{mark_at, product, sum, wide, words_part};
-use crate::records::Record;
-use mask::ImageDataMask;
+use crate::answers::BEFORE;
+use crate::records::{Fault, Record};
+use mask::{ImageDataMask, ParsedMask};
+use std::alloc::Global;
 
-pub fn parse(data: &[u8], r: Record) -> bool {
-    let p = ImageDataMask::parse(input_of(data, r), r.grid);
+// The lengths of a block record and of a pad record in bytes, and of the pad code in bits.
+fn lengths(m: ImageDataMask) -> [usize; 3] {
+    [
+        usize::from(m.block_mask_record_length),
+        usize::from(m.pad_pixel_mask_record_length),
+        usize::from(m.pad_pixel_code_length),
+    ]
+}
+
+fn parsed_values(p: ParsedMask) -> [usize; 6] {
     let m = p.mask;
-    let given = Given {
-        number: p.number,
-        count: 6,
-        values: [
-            m.image_data_offset as u64,
-            m.block_mask_record_length as u64,
-            m.pad_pixel_mask_record_length as u64,
-            m.pad_pixel_code_length as u64,
-            m.pad_pixel_code as u64,
-            p.used as u64,
-        ],
-        bytes: 0,
-    };
-    same_answer(data, r, given)
+    let [block, pad, code] = lengths(m);
+    [
+        m.image_data_offset as usize,
+        block,
+        pad,
+        code,
+        m.pad_pixel_code as usize,
+        p.used,
+    ]
+}
+
+pub fn parse(r: &Record<'_>) -> bool {
+    r.has(ImageDataMask::parse(r.input, r.grid).map(|p| (parsed_values(p), 0)))
 }
 
 // An argument of two bytes.
@@ -31,76 +35,55 @@ fn short(n: u32) -> u16 {
     (n % 65536) as u16
 }
 
-pub fn write(data: &[u8], r: Record, arguments: &[u32], out: &mut [u8]) -> bool {
+pub fn write(r: &Record<'_>, out: &mut [u8]) -> Result<bool, Fault> {
+    let ([block_length, pad_length, code_length, code, count], offsets) = r.arguments::<5>()?;
+    let (blocks, pads) = offsets
+        .split_at_checked(count as usize)
+        .ok_or(Fault::TooFewArguments)?;
     let m = ImageDataMask {
         image_data_offset: 0,
-        block_mask_record_length: short(r.first.a),
-        pad_pixel_mask_record_length: short(r.first.b),
-        pad_pixel_code_length: short(r.first.c),
-        pad_pixel_code: r.first.d,
+        block_mask_record_length: short(block_length),
+        pad_pixel_mask_record_length: short(pad_length),
+        pad_pixel_code_length: short(code_length),
+        pad_pixel_code: code,
     };
-    let middle = sum(5, wide(r.first.e));
-    let written = m.to_bytes(
-        words_part(arguments, 5, middle),
-        words_part(arguments, middle, r.arguments.count),
-        r.grid,
-        out,
-    );
-    same(data, r, no_values(written.number, written.bytes), out)
+    let written = m.to_bytes(blocks, pads, r.grid, out);
+    Ok(r.has(written.map(|bytes| ([], bytes))) && r.fills(out))
 }
 
-fn one_if(yes: bool) -> u64 {
-    if yes {
-        return 1;
-    }
-    0
+// Whether a block is present, whether its offset is known, and the offset.
+fn lookup_values(present: bool, offset: Option<u32>) -> [usize; 3] {
+    [
+        usize::from(present),
+        usize::from(offset.is_some()),
+        offset.unwrap_or(0) as usize,
+    ]
 }
 
-// A lookup is both of the library's calls, which have one number.
-pub fn lookup(data: &[u8], r: Record) -> bool {
-    let table = input_of(data, r);
-    let block = ImageDataMask::has_block(table, r.grid, r.first.a, r.first.b, r.first.c);
-    let place = ImageDataMask::get_block_offset(table, r.grid, r.first.a, r.first.b, r.first.c);
-    if block.number != place.number {
-        return false;
-    }
-    let given = Given {
-        number: block.number,
-        count: 3,
-        values: [
-            one_if(block.present),
-            one_if(place.given),
-            place.offset as u64,
-            0,
-            0,
-            0,
-        ],
-        bytes: 0,
-    };
-    same_answer(data, r, given)
+// A lookup is both of the library's calls, which have one refusal.
+pub fn lookup(r: &Record<'_>) -> Result<bool, Fault> {
+    let ([row, column, band], _) = r.arguments::<3>()?;
+    let block = ImageDataMask::has_block(r.input, r.grid, row, column, band);
+    let place = ImageDataMask::get_block_offset(r.input, r.grid, row, column, band);
+    Ok(match (block, place) {
+        (Ok(present), Ok(offset)) => r.has(Ok((lookup_values(present, offset), 0))),
+        (Err(one), Err(other)) => one == other && r.refuses(one),
+        _ => false,
+    })
 }
 
-pub fn from_marks(data: &[u8], r: Record) -> bool {
-    let input = input_of(data, r);
-    let marks = [mark_at(input, 0), mark_at(input, 8)];
-    let mut offsets = [WORD_BEFORE; 256];
-    let p = ImageDataMask::from_provided_blocks(&marks, r.grid, &mut offsets);
-    let m = p.mask;
-    let given = Given {
-        number: p.number,
-        count: 3,
-        values: [
-            m.block_mask_record_length as u64,
-            m.pad_pixel_mask_record_length as u64,
-            m.pad_pixel_code_length as u64,
-            0,
-            0,
-            0,
-        ],
-        bytes: counted(p.number, product(4, mask_records(r.grid))),
-    };
-    if wrong_words(output_of(data, r), &offsets) != 0 {
-        return false;
+pub fn from_marks(alloc: Global, r: &Record<'_>) -> Result<bool, Fault> {
+    let mut marks = [0u64; 2];
+    let (recorded, _) = r.input.as_chunks::<8>();
+    for (mark, bytes) in marks.iter_mut().zip(recorded) {
+        *mark = u64::from_be_bytes(*bytes);
     }
-    same_answer(data, r, given)
+    let mut offsets = [u32::from_be_bytes([BEFORE; 4]); 256];
+    let made = ImageDataMask::from_provided_blocks(&marks, r.grid, &mut offsets);
+    let answer = made.map(|p| (lengths(p.mask), p.used.saturating_mul(4)));
+    let out = offsets
+        .iter()
+        .flat_map(|offset| offset.to_be_bytes())
+        .collect::<Vec<u8>>(alloc)?;
+    Ok(r.has(answer) && r.fills(out.as_slice()))
 }

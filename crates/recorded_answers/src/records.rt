@@ -1,145 +1,119 @@
-// A record of the file: where its parts stand, and what may be wrong with it.
-use crate::grids::{grid_at, is_mode};
-use crate::parts::{product, sum, word_at};
+// A record of the file, and what may be wrong with it.
+use crate::grids::grid_of;
+use crate::kinds::Kind;
+use crate::words::{Words, words_of};
 use grid::Grid;
+use std::alloc::{AllocError, Global};
+use std::error::Error;
+use std::fmt;
 
-// A counted list in the file: where it begins, how many words or bytes it has, and where it ends.
-#[derive(Clone, Copy)]
-pub struct List {
-    pub at: usize,
-    pub count: usize,
-    pub end: usize,
-}
-
-// The first five arguments, of which a call takes as many as it has.
-#[derive(Clone, Copy)]
-pub struct Arguments {
-    pub a: u32,
-    pub b: u32,
-    pub c: u32,
-    pub d: u32,
-    pub e: u32,
-}
-
-#[derive(Clone, Copy)]
-pub struct Record {
-    pub kind: u32,
-    // Is IMODE B, P, R or S?
-    pub has_mode: bool,
+#[derive(Drop)]
+pub struct Record<'a> {
+    pub kind: Kind,
     pub grid: Grid,
-    pub arguments: List,
-    pub first: Arguments,
-    pub input: List,
+    arguments: Vec<u32>,
+    pub input: &'a [u8],
     pub number: u32,
-    pub values: List,
-    pub output: List,
-    // Its bytes after the word that tells them.
-    pub bytes: usize,
-    pub end: usize,
+    pub values: Vec<u32>,
+    pub output: &'a [u8],
 }
 
 // Most bytes of a record: 1,024 of arguments, input and output each, and the rest of it.
 const MOST_BYTES: usize = 3156;
 
-// What comes of a record: it is sound, and its answer the recorded one or not, or what is wrong with it.
-pub const SOUND: u32 = 0;
+// Why a record can't be replayed.
+#[derive(Clone, Copy, Debug, PartialEq, Eq)]
+pub enum Fault {
+    CutShort,
+    WrongLength,
+    TooLong,
+    UnknownKind,
+    NoMode,
+    TooFewArguments,
+    OutOfMemory,
+}
 
-pub const DIFFERENT: u32 = 1;
-
-const CUT_SHORT: u32 = 2;
-
-const WRONG_LENGTH: u32 = 3;
-
-const TOO_LONG: u32 = 4;
-
-const UNKNOWN_KIND: u32 = 5;
-
-const NO_MODE: u32 = 6;
-
-const TOO_FEW_ARGUMENTS: u32 = 7;
-
-// A count and as many elements of so many bytes.
-fn list_at(data: &[u8], at: usize, size: usize) -> List {
-    let count = word_at(data, at) as usize;
-    let first = sum(at, 4);
-    List {
-        at: first,
-        count,
-        end: sum(first, product(count, size)),
+impl fmt::Display for Fault {
+    fn fmt<W: fmt::Write>(&self, f: &mut fmt::Formatter<W>) -> fmt::Result {
+        f.pad(match self {
+            Fault::CutShort => "the file ends before it does",
+            Fault::WrongLength => "its parts are not as long as it",
+            Fault::TooLong => "it is too long",
+            Fault::UnknownKind => "unknown kind",
+            Fault::NoMode => "IMODE is no mode",
+            Fault::TooFewArguments => "too few arguments",
+            Fault::OutOfMemory => "out of memory",
+        })
     }
 }
 
-fn first_arguments(data: &[u8], at: usize) -> Arguments {
-    Arguments {
-        a: word_at(data, at),
-        b: word_at(data, sum(at, 4)),
-        c: word_at(data, sum(at, 8)),
-        d: word_at(data, sum(at, 12)),
-        e: word_at(data, sum(at, 16)),
+impl Error for Fault {}
+
+impl From<AllocError> for Fault {
+    fn from(_e: AllocError) -> Self {
+        Fault::OutOfMemory
     }
 }
 
-// The record that begins at `at`.
-pub fn record_at(data: &[u8], at: usize) -> Record {
-    let start = sum(at, 4);
-    let bytes = word_at(data, at) as usize;
-    let arguments = list_at(data, sum(start, 40), 4);
-    let input = list_at(data, arguments.end, 1);
-    let values = list_at(data, sum(input.end, 4), 4);
-    Record {
-        kind: word_at(data, start),
-        has_mode: is_mode(data, sum(start, 4)),
-        grid: grid_at(data, sum(start, 4)),
-        arguments,
-        first: first_arguments(data, arguments.at),
-        input,
-        number: word_at(data, input.end),
-        values,
-        output: list_at(data, values.end, 1),
-        bytes,
-        end: sum(start, bytes),
+// The parts of a record.
+#[derive(Clone, Copy)]
+struct Parts<'a> {
+    kind: u32,
+    grid: [u32; 9],
+    arguments: &'a [u8],
+    input: &'a [u8],
+    number: u32,
+    values: &'a [u8],
+    output: &'a [u8],
+}
+
+// The parts that fill these bytes.
+fn parts_of(bytes: &[u8]) -> Option<Parts<'_>> {
+    let mut words = Words { left: bytes };
+    let parts = Parts {
+        kind: words.word()?,
+        grid: words.words()?,
+        arguments: words.list(4)?,
+        input: words.list(1)?,
+        number: words.word()?,
+        values: words.list(4)?,
+        output: words.list(1)?,
+    };
+    words.left.is_empty().then_some(parts)
+}
+
+impl<'a> Record<'a> {
+    // The next record of a file.
+    pub fn read(alloc: Global, file: &mut Words<'a>) -> Result<Self, Fault> {
+        let bytes = file.list(1).ok_or(Fault::CutShort)?;
+        if bytes.len() > MOST_BYTES {
+            return Err(Fault::TooLong);
+        }
+        let parts = parts_of(bytes).ok_or(Fault::WrongLength)?;
+        Ok(Record {
+            kind: Kind::try_from(parts.kind)?,
+            grid: grid_of(parts.grid)?,
+            arguments: words_of(alloc, parts.arguments)?,
+            input: parts.input,
+            number: parts.number,
+            values: words_of(alloc, parts.values)?,
+            output: parts.output,
+        })
+    }
+
+    // The first arguments, as many as a call takes, and those after them.
+    pub fn arguments<const N: usize>(&self) -> Result<([u32; N], &[u32]), Fault> {
+        let arguments = self.arguments.as_slice();
+        let (first, others) = arguments.split_first_chunk().ok_or(Fault::TooFewArguments)?;
+        Ok((*first, others))
     }
 }
 
-// How many arguments a kind has at least; for a kind that there is not, as many as no record has.
-fn least_arguments(kind: u32) -> usize {
-    match kind {
-        1 => 4,
-        2 => 2,
-        3 => 5,
-        4 => 0,
-        5 => 5,
-        6 => 2,
-        7 | 8 | 9 | 10 => 0,
-        11 => 5,
-        12 => 3,
-        13 => 0,
-        14 | 15 => 4,
-        16 => 5,
-        _ => MOST_BYTES,
+// A list of bands at the end of the arguments: 0 for all, which is None here, or 1 and then the bands.
+pub fn bands_of(list: &[u32]) -> Result<Option<&[u32]>, Fault> {
+    match list {
+        [] => Err(Fault::TooFewArguments),
+        [0, ..] => Ok(None),
+        [_, bands @ ..] => Ok(Some(bands)),
     }
-}
-
-// What is wrong with a record, or SOUND: then its parts lie inside the file.
-pub fn fault_of(data: &[u8], r: Record) -> u32 {
-    if r.end > data.len() {
-        return CUT_SHORT;
-    }
-    if r.bytes > MOST_BYTES {
-        return TOO_LONG;
-    }
-    if r.output.end != r.end {
-        return WRONG_LENGTH;
-    }
-    let least = least_arguments(r.kind);
-    if least == MOST_BYTES {
-        return UNKNOWN_KIND;
-    }
-    if !r.has_mode {
-        return NO_MODE;
-    }
-    if r.arguments.count < least {
-        return TOO_FEW_ARGUMENTS;
-    }
-    SOUND
 }

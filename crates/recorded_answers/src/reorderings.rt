@@ -1,48 +1,21 @@
-// Records of the reorderings. Each answers whether the call gave what is recorded.
-use crate::answers::{input_of, no_values, same};
-use crate::parts::{wide, words_part};
-use crate::records::Record;
+// Records of the reorderings. They answer whether the call gave what is recorded.
+use crate::kinds::Kind;
+use crate::records::{Fault, Record, bands_of};
 
-pub fn to_band_sequential(data: &[u8], r: Record, out: &mut [u8]) -> bool {
-    let grid = r.grid;
-    let mode = grid.imode;
-    let a = interleave::to_band_sequential(
-        input_of(data, r),
-        mode,
-        r.first.a,
-        r.first.b,
-        r.first.c,
-        wide(r.first.d),
-        out,
-    );
-    same(data, r, no_values(a.number, a.bytes), out)
-}
-
-pub fn from_band_sequential(data: &[u8], r: Record, out: &mut [u8]) -> bool {
-    let grid = r.grid;
-    let mode = grid.imode;
-    let a = interleave::from_band_sequential(
-        input_of(data, r),
-        mode,
-        r.first.a,
-        r.first.b,
-        r.first.c,
-        wide(r.first.d),
-        out,
-    );
-    same(data, r, no_values(a.number, a.bytes), out)
-}
-
-pub fn from_pixels(data: &[u8], r: Record, arguments: &[u32], out: &mut [u8]) -> bool {
-    let a = interleave::fused_bip_to_bsq(
-        input_of(data, r),
-        r.first.a,
-        r.first.b,
-        r.first.c,
-        wide(r.first.d),
-        r.first.e == 0,
-        words_part(arguments, 5, r.arguments.count),
-        out,
-    );
-    same(data, r, no_values(a.number, a.bytes), out)
+pub fn reordering(r: &Record<'_>, out: &mut [u8]) -> Result<bool, Fault> {
+    let ([rows, columns, bands, size], list) = r.arguments::<4>()?;
+    let (mode, size) = (r.grid.imode, size as usize);
+    let a = match r.kind {
+        Kind::ToBandSequential => {
+            interleave::to_band_sequential(r.input, mode, rows, columns, bands, size, out)
+        }
+        Kind::FromBandSequential => {
+            interleave::from_band_sequential(r.input, mode, rows, columns, bands, size, out)
+        }
+        _ => {
+            let asked = bands_of(list)?;
+            interleave::fused_bip_to_bsq(r.input, rows, columns, bands, size, asked, out)
+        }
+    };
+    Ok(r.has(a.map(|o| ([], o.bytes))) && r.fills(out))
 }

@@ -1,130 +1,114 @@
 // The replay of a file, record by record.
 use crate::answers::BEFORE;
-use crate::counts::{COUNTS, OUT, print_counts, tally, tally_rest};
-use crate::frames::{same_change, same_look};
-use crate::parts::{product, sum, word_at};
-use crate::records::{DIFFERENT, List, Record, SOUND, fault_of, record_at};
+use crate::counts::Counts;
+use crate::frames::Frame;
+use crate::kinds::Kind;
+use crate::records::{Fault, Record};
+use crate::words::Words;
 use crate::{masks, reads, reorderings};
+use std::alloc::Global;
+use std::io;
 
 // Bytes of a record whose lists are empty.
 const LEAST_BYTES: usize = 64;
 
-// Bytes before the first record.
-const HEADER_BYTES: usize = 8;
-
-fn argument_at(data: &[u8], list: List, i: usize) -> u32 {
-    word_at(data, sum(list.at, product(i, 4)))
-}
-
-// Copies the arguments; after them stand words of no meaning.
-fn copy_arguments(data: &[u8], list: List, arguments: &mut [u32]) {
-    for i in 0..arguments.len() {
-        arguments[i] = argument_at(data, list, i);
-    }
-}
-
-// A kind that stands by itself, on its arguments and an output.
-fn same_alone(data: &[u8], r: Record, arguments: &[u32], out: &mut [u8]) -> bool {
-    let kind = r.kind;
-    match kind {
-        1 => reads::block_read(data, r, arguments, out),
-        2 => reads::whole_block(data, r),
-        3 => reads::window(data, r, arguments, out),
-        10 => masks::parse(data, r),
-        11 => masks::write(data, r, arguments, out),
-        12 => masks::lookup(data, r),
-        13 => masks::from_marks(data, r),
-        14 => reorderings::to_band_sequential(data, r, out),
-        15 => reorderings::from_band_sequential(data, r, out),
-        _ => reorderings::from_pixels(data, r, arguments, out),
-    }
-}
-
-fn same_by_itself(data: &[u8], r: Record) -> bool {
-    let mut arguments = [0u32; 256];
-    copy_arguments(data, r.arguments, &mut arguments);
+// Runs the call of a record. Is its answer the recorded one?
+fn same(alloc: Global, r: &Record<'_>, frame: &mut Frame) -> Result<bool, Fault> {
     let mut out = [BEFORE; 1024];
-    same_alone(data, r, &arguments, &mut out)
-}
-
-// Runs the call of a sound record. Is its answer the recorded one?
-fn same_record(data: &[u8], r: Record, image: &mut [u8], marks: &mut [u64]) -> bool {
-    let kind = r.kind;
-    match kind {
-        4 | 5 | 6 => same_change(data, r, image, marks),
-        7 | 8 | 9 => same_look(data, r, image, marks),
-        _ => same_by_itself(data, r),
+    match r.kind {
+        Kind::BlockRead => reads::block_read(r, &mut out),
+        Kind::WholeBlock => reads::whole_block(r),
+        Kind::Window => reads::window(r, &mut out),
+        Kind::Start => Ok(frame.start(r)),
+        Kind::Write => frame.write(r),
+        Kind::Skip => frame.skip(r),
+        Kind::Progress => Ok(frame.progress(r)),
+        Kind::Finish => Ok(frame.finish(r)),
+        Kind::Contents => Ok(frame.contents(r)),
+        Kind::MaskParse => Ok(masks::parse(r)),
+        Kind::MaskWrite => masks::write(r, &mut out),
+        Kind::MaskLookup => masks::lookup(r),
+        Kind::MaskFromMarks => masks::from_marks(alloc, r),
+        Kind::ToBandSequential | Kind::FromBandSequential | Kind::FromPixels => {
+            reorderings::reordering(r, &mut out)
+        }
     }
 }
 
-// What comes of a record.
-fn outcome_of(data: &[u8], r: Record, image: &mut [u8], marks: &mut [u64]) -> u32 {
-    let fault = fault_of(data, r);
-    if fault != SOUND {
-        return fault;
-    }
-    if same_record(data, r, image, marks) {
-        return SOUND;
-    }
-    DIFFERENT
+// The number of the next record's kind, or 0 where the file ends before it.
+fn next_kind(mut file: Words<'_>) -> u32 {
+    let _length = file.word();
+    file.word().unwrap_or(0)
 }
 
-// Replays record i, which begins at `at`, and answers where the next one begins.
-fn replay_record(
-    data: &[u8],
-    at: usize,
-    i: u32,
-    image: &mut [u8],
-    marks: &mut [u64],
-    counts: &mut [u64],
-) -> usize {
-    let r = record_at(data, at);
-    let outcome = outcome_of(data, r, image, marks);
-    tally(counts, i, r.kind, outcome);
-    r.end
+#[derive(Drop)]
+struct Replay<'a> {
+    file: Words<'a>,
+    frame: Frame,
+    counts: Counts,
 }
 
-// Replays so many records, and answers where the last one ends.
-fn replay_records(
-    data: &[u8],
-    count: u32,
-    image: &mut [u8],
-    marks: &mut [u64],
-    counts: &mut [u64],
-) -> usize {
-    let mut at = HEADER_BYTES;
+impl Replay<'_> {
+    // Replays the next record. Is its answer the recorded one?
+    fn same(&mut self, alloc: Global) -> Result<bool, Fault> {
+        let r = Record::read(alloc, &mut self.file)?;
+        let equal = same(alloc, &r, &mut self.frame)?;
+        self.counts.add(r.kind, equal);
+        Ok(equal)
+    }
+
+    // Replays record i. The first three that differ are named, and the first three that are damaged or missing.
+    fn record(&mut self, rt: &(impl Print + AllocGlobal), i: u32) -> io::Result<()> {
+        let kind = next_kind(self.file);
+        match self.same(rt.alloc()) {
+            Ok(true) => Ok(()),
+            Ok(false) if self.counts.differences() > 3 => Ok(()),
+            Ok(false) => println!(rt; "record {i} of kind {kind}: {:<32}", "the answer differs"),
+            Err(fault) => {
+                self.counts.add_fault();
+                if self.counts.faults() > 3 {
+                    return Ok(());
+                }
+                println!(rt; "record {i} of kind {kind}: {fault:<32}")
+            }
+        }
+    }
+
+    // Bytes that no record has, where the records end before the file.
+    fn rest(&mut self, rt: &impl Print) -> io::Result<()> {
+        if self.file.left.is_empty() {
+            return Ok(());
+        }
+        self.counts.add_fault();
+        println!(rt; "bytes are left after the last record")
+    }
+}
+
+// The count of records, and the records after it, if the file begins with REC1 and has room for them.
+fn records_of(data: &[u8]) -> Option<(u32, Words<'_>)> {
+    let mut file = Words { left: data };
+    if file.bytes(4)? != b"REC1".as_slice() {
+        return None;
+    }
+    let count = file.word()?;
+    if count as usize * LEAST_BYTES > file.left.len() {
+        return None;
+    }
+    Some((count, file))
+}
+
+pub fn replay_file(rt: &(impl Print + AllocGlobal), data: &[u8]) -> io::Result<()> {
+    let Some((count, file)) = records_of(data) else {
+        return println!(rt; "no file of records, or too short for its records");
+    };
+    let mut replay = Replay {
+        file,
+        frame: Frame::new(),
+        counts: Counts::default(),
+    };
     for i in 0..count {
-        at = replay_record(data, at, i, image, marks, counts);
+        replay.record(rt, i)?;
     }
-    at
-}
-
-// Replays so many records on an image and marks of its own, which at first hold other bytes than zeros.
-fn replay_and_count(data: &[u8], count: u32) {
-    let mut image = [BEFORE; 1024];
-    let mut marks = [18_446_744_073_709_551_615u64; 2];
-    let mut counts = [0u64; COUNTS];
-    let end = replay_records(data, count, &mut image, &mut marks, &mut counts);
-    tally_rest(&mut counts, end, data.len());
-    print_counts(&counts);
-}
-
-// Does the file begin with REC1, and has it room for its records?
-fn has_header(data: &[u8]) -> bool {
-    if data.len() < HEADER_BYTES {
-        return false;
-    }
-    if word_at(data, 0) != 0x5245_4331 {
-        return false;
-    }
-    let records = product(word_at(data, 4) as usize, LEAST_BYTES);
-    sum(HEADER_BYTES, records) <= data.len()
-}
-
-pub fn replay_file(data: &[u8]) {
-    if !has_header(data) {
-        io::write_all(OUT, b"no file of records, or too short for its records\n");
-        return;
-    }
-    replay_and_count(data, word_at(data, 4));
+    replay.rest(rt)?;
+    println!(rt; "{}", replay.counts)
 }

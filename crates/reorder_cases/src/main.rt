@@ -3,9 +3,13 @@
 // too.
 #![tactic(auto)]
 
-use interleave::Reordered;
+ghost use Rattle.std.specs.Prelude.{◌<◌, ◌≤◌};
+
+use interleave::{Output, Reordered};
 use layout::InterleaveMode;
-use printing::{print_bytes, print_letter, print_number, print_text};
+use printing::Hex;
+use refusals::Refusal;
+use std::io;
 
 // The sample that stands at each place: R00, R01, R10, R11 are 0 to 3, G00 to G11 are 4 to 7, B00 to B11 are 8 to 11.
 const BY_BAND: [u8; 12] = [0, 1, 2, 3, 4, 5, 6, 7, 8, 9, 10, 11];
@@ -14,185 +18,197 @@ const BY_PIXEL: [u8; 12] = [0, 4, 8, 1, 5, 9, 2, 6, 10, 3, 7, 11];
 
 const BY_ROW: [u8; 12] = [0, 1, 4, 5, 8, 9, 2, 3, 6, 7, 10, 11];
 
-fn mode(i: usize) -> InterleaveMode {
-    match i {
-        0 => InterleaveMode::B,
-        1 => InterleaveMode::P,
-        2 => InterleaveMode::R,
-        _ => InterleaveMode::S,
+fn order(mode: InterleaveMode) -> [u8; 12] {
+    match mode {
+        InterleaveMode::P => BY_PIXEL,
+        InterleaveMode::R => BY_ROW,
+        InterleaveMode::B | InterleaveMode::S => BY_BAND,
     }
 }
 
-// The sample that stands at a place in the order of a mode.
-fn sample_at(i: usize, place: usize) -> u8 {
-    if place >= 12 {
-        return 0;
+// Room for the twelve samples, at most 8 bytes each.
+type Samples = [u8; 96];
+
+// The samples in the order of a mode: byte j of sample n is 16 n + j. `size` is a plain number, as the calls take it.
+fn arranged(mode: InterleaveMode, size: usize) -> Samples
+    requires { (0 < size) × (size ≤ 8) }
+{
+    let mut data = [0u8; 96];
+    for (bytes, sample) in data.chunks_exact_mut(size).zip(order(mode)) {
+        for (byte, j) in bytes.iter_mut().zip(0..8) {
+            *byte = sample << 4 | j;
+        }
     }
-    match i {
-        1 => BY_PIXEL[place],
-        2 => BY_ROW[place],
-        _ => BY_BAND[place],
+    data
+}
+
+// The counts of a picture, and the bytes of a sample.
+#[derive(Clone, Copy)]
+struct Counts {
+    rows: u32,
+    columns: u32,
+    bands: u32,
+    size: usize,
+}
+
+// Those of the twelve samples, of so many bytes each.
+fn twelve_of(size: usize) -> Counts {
+    Counts {
+        rows: 2,
+        columns: 2,
+        bands: 3,
+        size,
     }
 }
 
-// The samples in the order of a mode: byte j of sample n is 16 n + j.
-fn arrange(data: &mut [u8], i: usize, size: usize) {
-    if size == 0 {
-        return;
-    }
-    for k in 0..data.len() {
-        data[k] = (sample_at(i, k / size) % 16) * 16 + (k % size % 16) as u8;
-    }
+fn print_answer(
+    rt: &impl Print,
+    label: &str,
+    mode: InterleaveMode,
+    size: usize,
+    answer: Result<Output, Refusal>,
+    out: &[u8],
+) -> io::Result<()> {
+    let answer = Reordered::from(answer);
+    print!(rt; "{label} {mode} {size} {} ", answer.number)?;
+    println!(rt; "{} {} {}", answer.bands, answer.bytes, Hex(out))
 }
 
-fn print_answer(label: &[u8], i: usize, size: usize, answer: Reordered, out: &[u8]) {
-    print_text(label);
-    print_letter(i);
-    print_number(size as u64);
-    print_number(answer.number as u64);
-    print_number(answer.bands as u64);
-    print_number(answer.bytes as u64);
-    print_bytes(out);
-    print_text(b"\n");
-}
-
-fn to_bands(data: &[u8], i: usize, size: usize) {
-    if size > 8 {
-        return;
-    }
-    if data.len() < size * 12 {
-        return;
-    }
-    let mut to = [0xAAu8; 98];
+// This and the next differ in the call alone; a parameter for the call would have to name its seven types.
+fn to_bands(
+    rt: &impl Print,
+    label: &str,
+    data: &[u8],
+    mode: InterleaveMode,
+    counts: Counts,
+    out: &mut [u8],
+) -> io::Result<()> {
     let answer = interleave::to_band_sequential(
-        &data[..size * 12],
-        mode(i),
-        2,
-        2,
-        3,
-        size,
-        &mut to,
+        data,
+        mode,
+        counts.rows,
+        counts.columns,
+        counts.bands,
+        counts.size,
+        out,
     );
-    print_answer(b"to ", i, size, answer, &to);
+    print_answer(rt, label, mode, counts.size, answer, out)
 }
 
-fn from_bands(data: &[u8], i: usize, size: usize) {
-    if size > 8 {
-        return;
-    }
-    if data.len() < size * 12 {
-        return;
-    }
-    let mut from = [0xAAu8; 98];
+fn from_bands(
+    rt: &impl Print,
+    label: &str,
+    data: &[u8],
+    mode: InterleaveMode,
+    counts: Counts,
+    out: &mut [u8],
+) -> io::Result<()> {
     let answer = interleave::from_band_sequential(
-        &data[..size * 12],
-        mode(i),
-        2,
-        2,
-        3,
-        size,
-        &mut from,
+        data,
+        mode,
+        counts.rows,
+        counts.columns,
+        counts.bands,
+        counts.size,
+        out,
     );
-    print_answer(b"from ", i, size, answer, &from);
+    print_answer(rt, label, mode, counts.size, answer, out)
 }
 
-fn reorder(i: usize, size: usize) {
-    let mut data = [0u8; 96];
-    arrange(&mut data, i, size);
-    to_bands(&data, i, size);
-    let mut by_band = [0u8; 96];
-    arrange(&mut by_band, 0, size);
-    from_bands(&by_band, i, size);
+fn reorder(rt: &impl Print, mode: InterleaveMode, size: usize) -> io::Result<()>
+    requires { (0 < size) × (size ≤ 8) }
+{
+    let bytes = size * 12;
+    let by_mode = arranged(mode, size);
+    let mut to = [0xAAu8; 98];
+    to_bands(rt, "to", &by_mode[..bytes], mode, twelve_of(size), &mut to)?;
+    let by_band = arranged(InterleaveMode::B, size);
+    let mut from = [0xAAu8; 98];
+    from_bands(
+        rt,
+        "from",
+        &by_band[..bytes],
+        mode,
+        twelve_of(size),
+        &mut from,
+    )
 }
 
-// Listed bands out of P, into an output lent by the caller.
-fn take_listed(data: &[u8], list: &[u32], all: bool, size: usize, out: &mut [u8]) {
-    if size > 8 {
-        return;
-    }
-    if data.len() < size * 12 {
-        return;
-    }
-    let answer = interleave::fused_bip_to_bsq(&data[..size * 12], 2, 2, 3, size, all, list, out);
-    print_answer(b"listed ", 1, size, answer, out);
-}
-
-fn select(list: &[u32], all: bool, size: usize) {
-    let mut data = [0u8; 96];
-    arrange(&mut data, 1, size);
+// Bands out of P, those of a list or all, into an output of so many bytes.
+fn select(rt: &impl Print, bands: Option<&[u32]>, size: usize, room: usize) -> io::Result<()>
+    requires { (0 < size) × (size ≤ 8) × (room ≤ 130) }
+{
+    let by_pixel = arranged(InterleaveMode::P, size);
+    let data = &by_pixel[..size * 12];
     let mut out = [0xAAu8; 130];
-    take_listed(&data, list, all, size, &mut out);
+    let out = &mut out[..room];
+    let answer = interleave::fused_bip_to_bsq(data, 2, 2, 3, size, bands, out);
+    print_answer(rt, "listed", InterleaveMode::P, size, answer, out)
 }
 
-// An output of one byte too few.
-fn select_short(list: &[u32]) {
-    let mut data = [0u8; 96];
-    arrange(&mut data, 1, 2);
-    let mut out = [0xAAu8; 15];
-    take_listed(&data, list, false, 2, &mut out);
+fn selections(rt: &impl Print) -> io::Result<()> {
+    select(rt, Some(&[]), 2, 130)?;
+    select(rt, None, 2, 130)?;
+    select(rt, Some(&[2, 0]), 2, 130)?;
+    select(rt, Some(&[1, 1, 1, 1]), 3, 130)?;
+    select(rt, Some(&[0, 3]), 2, 130)?;
+    // An output of one byte too few.
+    select(rt, Some(&[2, 0]), 2, 15)
 }
 
 // Counts of nothing beside the largest counts, and a product that would wrap.
-fn extremes() {
-    let none: [u8; 0] = [];
+fn extremes(rt: &impl Print) -> io::Result<()> {
     let mut out = [0xAAu8; 2];
-    let answer = interleave::to_band_sequential(
-        &none,
-        InterleaveMode::P,
-        4_294_967_295,
-        4_294_967_295,
-        0,
-        8,
-        &mut out,
-    );
-    print_answer(b"no bands ", 1, 8, answer, &out);
-    let answer = interleave::from_band_sequential(
-        &none,
+    let no_bands = Counts {
+        rows: u32::MAX,
+        columns: u32::MAX,
+        bands: 0,
+        size: 8,
+    };
+    to_bands(rt, "no bands", &[], InterleaveMode::P, no_bands, &mut out)?;
+    let no_columns = Counts {
+        rows: u32::MAX,
+        columns: 0,
+        bands: u32::MAX,
+        size: 1,
+    };
+    from_bands(
+        rt,
+        "no columns",
+        &[],
         InterleaveMode::R,
-        4_294_967_295,
-        0,
-        4_294_967_295,
-        1,
+        no_columns,
         &mut out,
-    );
-    print_answer(b"no columns ", 2, 1, answer, &out);
-    let answer = interleave::to_band_sequential(
-        &none,
-        InterleaveMode::R,
-        2_147_483_648,
-        2_147_483_648,
-        4,
-        1,
+    )?;
+    let wraps = Counts {
+        rows: 1 << 31,
+        columns: 1 << 31,
+        bands: 4,
+        size: 1,
+    };
+    to_bands(rt, "wraps", &[], InterleaveMode::R, wraps, &mut out)?;
+    let nine_bytes = Counts {
+        rows: 1,
+        columns: 1,
+        bands: 1,
+        size: 9,
+    };
+    to_bands(
+        rt,
+        "nine bytes",
+        &[],
+        InterleaveMode::B,
+        nine_bytes,
         &mut out,
-    );
-    print_answer(b"wraps ", 2, 1, answer, &out);
-    let answer = interleave::to_band_sequential(&none, InterleaveMode::B, 1, 1, 1, 9, &mut out);
-    print_answer(b"nine bytes ", 0, 9, answer, &out);
+    )
 }
 
-fn every_mode(size: usize) {
-    for i in 0..4 {
-        reorder(i, size);
-    }
-}
-
-fn every_size() {
+fn main(rt: HostRuntime) -> io::Result<()> {
     for size in 1..9 {
-        every_mode(size);
+        for mode in InterleaveMode::ALL {
+            reorder(&rt, mode, size)?;
+        }
     }
-}
-
-fn main() {
-    every_size();
-    let none: [u32; 0] = [];
-    select(&none, false, 2);
-    select(&none, true, 2);
-    let two = [2, 0];
-    select(&two, false, 2);
-    let twice = [1, 1, 1, 1];
-    select(&twice, false, 3);
-    let high = [0, 3];
-    select(&high, false, 2);
-    select_short(&two);
-    extremes();
+    selections(&rt)?;
+    extremes(&rt)
 }

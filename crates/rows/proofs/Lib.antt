@@ -1,3 +1,4 @@
 -- The laws of `rows`.
 pub mod WholeBytes
 pub mod OneRow
+pub mod Places

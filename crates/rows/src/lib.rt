@@ -1,114 +1,55 @@
 // Several rows, or several bands of pixels, moved at once.
 #![tactic(auto)]
 
-ghost use Rattle.std.specs.Prelude.{◌≡◌, ℕ, ◌+◌, ◌*◌, ◌≤◌, ◌<◌, length};
-ghost use Rattle.samples.specs.Internal.Samples.{SamplesFit};
-ghost use Rattle.rows.specs.Internal.Rows.{Movable, rows_read, rows_written};
+ghost use Rattle.std.specs.Prelude.{◌≡◌, ◌*◌, ◌≤◌, ◌<◌, length};
+ghost use Rattle.rows.specs.Internal.Places.{RowsInImage, RowsInData, RowsFit, rows_read_at, rows_written_at};
 
+use rows::Rows;
 use samples::read::read_samples;
 use samples::write::write_samples;
 use whole::{copy_rows, whole_rows};
 
 pub mod listed;
+pub mod rows;
 pub mod whole;
 
-// `rows` rows of samples as `read_samples` reads them, which start `row` bits apart in `src` and `line` bytes apart
-// in `out`.
-pub fn read_rows(
-    src: &[u8],
-    at: usize,
-    row: usize,
-    step: usize,
-    width: usize,
-    size: usize,
-    count: usize,
-    out: &mut [u8],
-    to: usize,
-    line: usize,
-    rows: usize,
-)
-    requires width_fits { (width ≤ 8 * size) × (size ≤ 8) × ((width < 8 * size → width ≤ 57)) }
-    requires movable { (i : ℕ) → i < rows → Movable (length src.now) (at + i * row) step width size count }
-    requires out_holds { (0 < rows) × (to + rows * line + count * size ≤ length out.old + line) }
-    ensures { out.new ≡ rows_read src.now at row step width size count to line rows
-        out.old }
+// Rows of samples of `src` go side by side to `out`, each as `read_samples` reads it.
+pub fn read_rows(src: &[u8], rows: Rows, out: &mut [u8])
+    requires narrow { rows.first.width < 8 * rows.first.size → rows.first.width ≤ 57 }
+    requires movable { RowsInImage rows (length src.now) }
+    requires out_holds { RowsInData rows (length out.old) }
+    ensures { out.new ≡ rows_read_at src.now rows out.old }
 {
-    // rows that follow each other on both sides are one row; of samples of no bytes there may be too many to count
-    if size > 0 && row == count * step && line == count * size {
-        read_samples(src, at, step, width, size, rows * count, out, to);
+    if let Some(row) = rows.as_one() {
+        read_samples(src, row, out);
         return;
     }
     // a row of no samples may start outside `src`
-    if width == 8 * size && count > 0 {
-        whole_rows(
-            src,
-            at / 8,
-            row / 8,
-            step / 8,
-            size,
-            count,
-            out,
-            to,
-            line,
-            rows,
-        );
+    if rows.first.width == 8 * rows.first.size && rows.first.count > 0 {
+        whole_rows(src, rows.bytes(), out);
         return;
     }
-    for i in 0..rows {
-        read_samples(
-            src,
-            at + i * row,
-            step,
-            width,
-            size,
-            count,
-            out,
-            to + i * line,
-        );
+    for i in 0..rows.count {
+        read_samples(src, rows.row(i), out);
     }
 }
 
-// `rows` rows of samples as `write_samples` writes them, which start `line` bytes apart in `dat` and `row` bits apart
-// in `img`.
-pub fn write_rows(
-    dat: &[u8],
-    from: usize,
-    line: usize,
-    size: usize,
-    img: &mut [u8],
-    at: usize,
-    row: usize,
-    step: usize,
-    width: usize,
-    count: usize,
-    rows: usize,
-)
-    requires width_fits { (width ≤ 8 * size) × (size ≤ 8) }
-    requires movable { (i : ℕ) → i < rows → Movable (length img.old) (at + i * row) step width size count }
-    requires data_holds { (0 < rows) × (from + rows * line + count * size ≤ length dat.now + line) }
-    requires samples_fit { width < 8 * size → (i : ℕ) → i < rows → SamplesFit dat.now (from + i * line) size width count }
-    ensures { img.new ≡ rows_written dat.now from line size width at row step count rows
-        img.old }
+// Rows of samples that stand side by side in `dat` go to `img`, each as `write_samples` writes it.
+pub fn write_rows(dat: &[u8], rows: Rows, img: &mut [u8])
+    requires movable { RowsInImage rows (length img.old) }
+    requires data_holds { RowsInData rows (length dat.now) }
+    requires samples_fit { RowsFit dat.now rows }
+    ensures { img.new ≡ rows_written_at dat.now rows img.old }
 {
-    // rows that follow each other on both sides are one row; of samples of no bytes there may be too many to count
-    if size > 0 && row == count * step && line == count * size {
-        write_samples(dat, from, size, img, at, step, width, rows * count);
+    if let Some(row) = rows.as_one() {
+        write_samples(dat, row, img);
         return;
     }
-    if step == width && width == 8 * size {
-        copy_rows(dat, from, line, size, count, img, at / 8, row / 8, rows);
+    if rows.first.step == rows.first.width && rows.first.width == 8 * rows.first.size {
+        copy_rows(dat, rows.bytes().turned(), img);
         return;
     }
-    for i in 0..rows {
-        write_samples(
-            dat,
-            from + i * line,
-            size,
-            img,
-            at + i * row,
-            step,
-            width,
-            count,
-        );
+    for i in 0..rows.count {
+        write_samples(dat, rows.row(i), img);
     }
 }

@@ -1,75 +1,48 @@
 // Listed bands out of pixels, pixel by pixel: the bands of a pixel share their cache lines.
-ghost use Rattle.std.specs.Prelude.{◌≡◌, length};
-ghost use Rattle.common.specs.Turns.{iter};
-ghost use Rattle.rows.specs.Internal.Rows.{PixelsIn, sample_read, pixels_read};
+ghost use Rattle.std.specs.Prelude.{◌≡◌, ◌<◌, length};
+ghost use Rattle.rows.specs.Internal.Places.{ListedIn, listed_pixel_at, listed_at};
 
 use bits::bytes::{get_be, put_be};
+use samples::row::ByteRow;
 
-// The listed bands of the pixel at index `at` of `src`, in which samples of `size` bytes stand side by side. They go to
-// index `to` of `out` on, `plane` bytes apart.
-fn gather_pixel(
-    src: &[u8],
-    at: usize,
-    size: usize,
-    list: &[u32],
-    out: &mut [u8],
-    to: usize,
-    plane: usize,
-)
-    requires { PixelsIn (length src.now) (length out.old) list.now at 0 size to plane 1 }
-    ensures { out.new ≡ iter (length list.now)
-        (sample_read src.now list.now at size to plane) out.old }
+// The listed bands of pixel c of `src`, in which the samples of all bands stand side by side, go to `out`, `plane`
+// bytes apart. `row` has the samples of band 0.
+fn gather_pixel(src: &[u8], row: ByteRow, c: usize, list: &[u32], out: &mut [u8], plane: usize)
+    requires holds { ListedIn (length src.now) (length out.old) list.now row plane }
+    requires pixel { c < row.count }
+    ensures { out.new ≡ listed_pixel_at src.now list.now row plane c out.old }
 {
-    for k in 0..list.len() {
-        let v = get_be(src, at + list[k] as usize * size, size);
+    let size = row.size;
+    let at = row.at + c * row.step;
+    let to = row.data_at + c * size;
+    for (k, band) in list.iter().enumerate() {
+        let v = get_be(src, at + *band as usize * size, size);
         put_be(out, to + k * plane, size, v);
     }
 }
 
-// The listed bands of `count` pixels, which start `pixel` bytes apart from index `at` of `src` on. A band's samples
-// go side by side to `out`.
-fn gather_listed_any(
-    src: &[u8],
-    at: usize,
-    pixel: usize,
-    size: usize,
-    list: &[u32],
-    count: usize,
-    out: &mut [u8],
-    to: usize,
-    plane: usize,
-)
-    requires { PixelsIn (length src.now) (length out.old) list.now at pixel size to plane count }
-    ensures { out.new ≡ pixels_read src.now list.now at pixel size to
-        plane count out.old }
+// The listed bands of all pixels. A band's samples go side by side to `out`.
+fn gather_listed_any(src: &[u8], row: ByteRow, list: &[u32], out: &mut [u8], plane: usize)
+    requires { ListedIn (length src.now) (length out.old) list.now row plane }
+    ensures { out.new ≡ listed_at src.now list.now row plane out.old }
 {
-    for c in 0..count {
-        gather_pixel(src, at + c * pixel, size, list, out, to + c * size, plane);
+    for c in 0..row.count {
+        gather_pixel(src, row, c, list, out, plane);
     }
 }
 
 // The same, with a loop of its own for each common size.
-pub fn gather_listed(
-    src: &[u8],
-    at: usize,
-    pixel: usize,
-    size: usize,
-    list: &[u32],
-    count: usize,
-    out: &mut [u8],
-    to: usize,
-    plane: usize,
-)
-    requires { PixelsIn (length src.now) (length out.old) list.now at pixel size to plane count }
-    ensures { out.new ≡ pixels_read src.now list.now at pixel size to
-        plane count out.old }
+pub fn gather_listed(src: &[u8], row: ByteRow, list: &[u32], out: &mut [u8], plane: usize)
+    requires { ListedIn (length src.now) (length out.old) list.now row plane }
+    ensures { out.new ≡ listed_at src.now list.now row plane out.old }
 {
-    match size {
-        1 => gather_listed_any(src, at, pixel, 1, list, count, out, to, plane),
-        2 => gather_listed_any(src, at, pixel, 2, list, count, out, to, plane),
-        3 => gather_listed_any(src, at, pixel, 3, list, count, out, to, plane),
-        4 => gather_listed_any(src, at, pixel, 4, list, count, out, to, plane),
-        8 => gather_listed_any(src, at, pixel, 8, list, count, out, to, plane),
-        _ => gather_listed_any(src, at, pixel, size, list, count, out, to, plane),
+    // a match of its own, as in `samples::read::gather`
+    match row.size {
+        1 => gather_listed_any(src, row.of_size(1), list, out, plane),
+        2 => gather_listed_any(src, row.of_size(2), list, out, plane),
+        3 => gather_listed_any(src, row.of_size(3), list, out, plane),
+        4 => gather_listed_any(src, row.of_size(4), list, out, plane),
+        8 => gather_listed_any(src, row.of_size(8), list, out, plane),
+        _ => gather_listed_any(src, row, list, out, plane),
     }
 }

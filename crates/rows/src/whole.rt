@@ -1,110 +1,65 @@
 // Rows of samples of whole bytes.
-ghost use Rattle.std.specs.Prelude.{◌≡◌, ◌+◌, ◌*◌, ◌≤◌, ◌<◌, length};
-ghost use Rattle.rows.specs.Internal.Rows.{whole_rows};
+ghost use Rattle.std.specs.Prelude.{◌≡◌, ◌<◌, length};
+ghost use Rattle.rows.specs.Internal.Places.{ByteRowsInImage, ByteRowsInData, whole_rows_at};
 
+use crate::rows::ByteRows;
 use bits::bytes::copy;
 use samples::read::gather_any;
 
-// `rows` rows of `count` samples of `size` bytes that stand side by side, from index `at` of `src` to index `to` of
-// `out` on. Rows start `row` bytes apart in `src` and `line` bytes apart in `out`.
-pub fn copy_rows(
-    src: &[u8],
-    at: usize,
-    row: usize,
-    size: usize,
-    count: usize,
-    out: &mut [u8],
-    to: usize,
-    line: usize,
-    rows: usize,
-)
-    requires src_holds { (0 < rows) × (at + rows * row + count * size ≤ length src.now + row) }
-    requires out_holds { to + rows * line + count * size ≤ length out.old + line }
-    ensures { out.new ≡ whole_rows src.now at row size size count to line rows
-        out.old }
+// Rows of samples that stand side by side in `src` go to `out`.
+pub(crate) fn copy_rows(src: &[u8], rows: ByteRows, out: &mut [u8])
+    requires side_by_side { (0 < rows.count) × (rows.first.step ≡ rows.first.size) }
+    requires src_holds { ByteRowsInImage rows (length src.now) }
+    requires out_holds { ByteRowsInData rows (length out.old) }
+    ensures { out.new ≡ whole_rows_at src.now rows out.old }
 {
-    let n = count * size;
-    for i in 0..rows {
-        copy(src, at + i * row, n, out, to + i * line);
+    let n = rows.first.count * rows.first.size;
+    for i in 0..rows.count {
+        let row = rows.row(i);
+        copy(src, row.at, n, out, row.data_at);
     }
 }
 
-// `rows` rows of `count` samples of `size` bytes, one every `step` bytes, from index `at` of `src` to index `to` of
-// `out` on. Rows start `row` bytes apart in `src` and `line` bytes apart in `out`.
-fn gather_rows_any(
-    src: &[u8],
-    at: usize,
-    row: usize,
-    step: usize,
-    size: usize,
-    count: usize,
-    out: &mut [u8],
-    to: usize,
-    line: usize,
-    rows: usize,
-)
-    requires size_fits { (size ≤ 8) × (0 < count) }
-    requires src_holds { at + rows * row + count * step + size ≤ length src.now + step + row }
-    requires out_holds { to + rows * line + count * size ≤ length out.old + line }
-    ensures { out.new ≡ whole_rows src.now at row step size count to line rows
-        out.old }
+// Rows of samples of `src` go side by side to `out`.
+fn gather_rows_any(src: &[u8], rows: ByteRows, out: &mut [u8])
+    requires some { 0 < rows.first.count }
+    requires src_holds { ByteRowsInImage rows (length src.now) }
+    requires out_holds { ByteRowsInData rows (length out.old) }
+    ensures { out.new ≡ whole_rows_at src.now rows out.old }
 {
-    for i in 0..rows {
-        gather_any(src, at + i * row, step, size, count, out, to + i * line);
+    for i in 0..rows.count {
+        gather_any(src, rows.row(i), out);
     }
 }
 
 // The same, with a loop of its own for each common size.
-pub fn gather_rows(
-    src: &[u8],
-    at: usize,
-    row: usize,
-    step: usize,
-    size: usize,
-    count: usize,
-    out: &mut [u8],
-    to: usize,
-    line: usize,
-    rows: usize,
-)
-    requires size_fits { (size ≤ 8) × (0 < count) }
-    requires src_holds { at + rows * row + count * step + size ≤ length src.now + step + row }
-    requires out_holds { to + rows * line + count * size ≤ length out.old + line }
-    ensures { out.new ≡ whole_rows src.now at row step size count to line rows
-        out.old }
+pub fn gather_rows(src: &[u8], rows: ByteRows, out: &mut [u8])
+    requires some { 0 < rows.first.count }
+    requires src_holds { ByteRowsInImage rows (length src.now) }
+    requires out_holds { ByteRowsInData rows (length out.old) }
+    ensures { out.new ≡ whole_rows_at src.now rows out.old }
 {
-    match size {
-        1 => gather_rows_any(src, at, row, step, 1, count, out, to, line, rows),
-        2 => gather_rows_any(src, at, row, step, 2, count, out, to, line, rows),
-        3 => gather_rows_any(src, at, row, step, 3, count, out, to, line, rows),
-        4 => gather_rows_any(src, at, row, step, 4, count, out, to, line, rows),
-        8 => gather_rows_any(src, at, row, step, 8, count, out, to, line, rows),
-        _ => gather_rows_any(src, at, row, step, size, count, out, to, line, rows),
+    // a match of its own, as in `samples::read::gather`
+    match rows.first.size {
+        1 => gather_rows_any(src, rows.of_size(1), out),
+        2 => gather_rows_any(src, rows.of_size(2), out),
+        3 => gather_rows_any(src, rows.of_size(3), out),
+        4 => gather_rows_any(src, rows.of_size(4), out),
+        8 => gather_rows_any(src, rows.of_size(8), out),
+        _ => gather_rows_any(src, rows, out),
     }
 }
 
 // The same: copied where the samples stand side by side, and else gathered.
-pub fn whole_rows(
-    src: &[u8],
-    at: usize,
-    row: usize,
-    step: usize,
-    size: usize,
-    count: usize,
-    out: &mut [u8],
-    to: usize,
-    line: usize,
-    rows: usize,
-)
-    requires size_fits { (size ≤ 8) × (0 < count) × (0 < rows) }
-    requires src_holds { at + rows * row + count * step + size ≤ length src.now + step + row }
-    requires out_holds { to + rows * line + count * size ≤ length out.old + line }
-    ensures { out.new ≡ whole_rows src.now at row step size count to line rows
-        out.old }
+pub fn whole_rows(src: &[u8], rows: ByteRows, out: &mut [u8])
+    requires some { (0 < rows.first.count) × (0 < rows.count) }
+    requires src_holds { ByteRowsInImage rows (length src.now) }
+    requires out_holds { ByteRowsInData rows (length out.old) }
+    ensures { out.new ≡ whole_rows_at src.now rows out.old }
 {
-    if step == size {
-        copy_rows(src, at, row, size, count, out, to, line, rows)
+    if rows.first.step == rows.first.size {
+        copy_rows(src, rows, out)
     } else {
-        gather_rows(src, at, row, step, size, count, out, to, line, rows)
+        gather_rows(src, rows, out)
     }
 }

@@ -3,3 +3,4 @@ pub mod Samples
 pub mod Moves
 pub mod Patched
 pub mod Groups
+pub mod Rows

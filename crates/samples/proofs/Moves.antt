@@ -2,16 +2,15 @@
 -- Assumes nothing.
 use mathlib.Core.Path.{◌≡◌, refl, sym, ap, ◌∙◌}
 use mathlib.Core.List.{List}
-use Prim.Native.Nat.{ℕ, zero, suc, ◌+◌, ◌-◌, ◌*◌, ◌/◌, ◌%◌, ◌^◌, ◌≤◌, ◌<◌}
-use native.Mathlib.Nat.{mul_left_comm, mul-le-mul_right, suc-mul}
-use native.Mathlib.Decide.{dec_lt}
+use Prim.Native.Nat.{ℕ, zero, suc, ◌+◌, ◌-◌, ◌*◌, ◌/◌, ◌%◌, ◌^◌, ◌≤◌}
+use native.Mathlib.Nat.{mul_left_comm, suc-mul}
 use native.Mathlib.Numerals.{add-one}
 use native.Mathlib.Omega.{arith}
 use lib.ListN.{length, take, drop}
 use lib.Pow.{high, low}
 use Rattle.bits.specs.Bits.{Bytes, bits_at, put_bits, be_at, be_bytes}
 use Rattle.common.specs.Over.{over}
-use Rattle.bits.proofs.Bits.{within, bits_at-add, bits_at_lt}
+use Rattle.bits.proofs.Bits.{bits_at-add, bits_at_lt}
 use Rattle.bits.proofs.BigEndian.{bits_at-bytes, put_bits-bytes}
 use Rattle.common.proofs.Over.{over_none}
 use Rattle.bits.specs.Values.{values, side_by_side}
@@ -62,35 +61,6 @@ packed xs at (suc n) b h =
     ∙ ap (λ (x : ℕ). bits_at xs x w) p
 
 -- ---- a turn
-
--- sample k ends within each of two runs
-abbrev pub Ends : ℕ → ℕ → ℕ → ℕ → Type 0
-Ends k count m n = (k * m + m ≤ count * m) × (k * n + n ≤ count * n)
-
-pub ends : (k count m n : ℕ) → k < count → Ends k count m n
-ends k count m n h = (within k count m h, within k count n h)
-
--- the same said of k = count too, where the last term is no less than a step; below count it is 0
-abbrev pub Room-left : ℕ → ℕ → ℕ → ℕ → Type 0
-Room-left k count m n = (k * m + m ≤ count * m + 2 ^ 67 * (k + 1 - count)) × (k * n + n ≤ count * n + 2 ^ 67 * (k + 1 - count))
-
-pub room-left : (k count m n : ℕ) → (k ≤ count) × (m ≤ 2 ^ 67) × (n ≤ 2 ^ 67) → Room-left k count m n
-room-left k count m n h = go (dec_lt k count)
-  where
-    go : Dec (k < count) → Room-left k count m n
-    go (yes l) = omega (arith, ends k count m n l)
-    go (no l) = omega (arith, mul-le-mul_right m h.0, mul-le-mul_right n h.0)
-
--- after k turns of a loop ys is ws, and its length is still l
-abbrev pub So-far : (ws ys : List ℕ) (l count m n k : ℕ) → Type 0
-So-far ws ys l count m n k = (k ≤ count) × (ys ≡ ws) × (length ys ≡ l) × Room-left k count m n
-
-pub none_yet : {ws ys : List ℕ} {count m n : ℕ} → (m ≤ 2 ^ 67) × (n ≤ 2 ^ 67) → ys ≡ ws → So-far ws ys (length ys) count m n 0
-none_yet {count} {m} {n} h e = (omega arith, e, refl, room-left 0 count m n (omega arith))
-
-pub one_more : {vs ws ys zs : List ℕ} {l count m n k : ℕ} → So-far vs ys l count m n k → (k < count) × (m ≤ 2 ^ 67) × (n ≤ 2 ^ 67) × (length zs ≡ length ys)
-    → zs ≡ ws → So-far ws zs l count m n (k + 1)
-one_more {count} {m} {n} {k} i h e = (omega arith, e, omega arith, room-left (k + 1) count m n (omega arith))
 
 pub put_spaced-none : (v : ℕ → ℕ) (width p step : ℕ) (d : List ℕ) → d ≡ put_spaced v width p step 0 d
 unfolding put_spaced

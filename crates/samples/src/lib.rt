@@ -3,5 +3,6 @@
 
 mod pack;
 pub mod read;
+pub mod row;
 mod unpack;
 pub mod write;

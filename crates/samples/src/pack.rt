@@ -3,8 +3,10 @@ ghost use Rattle.std.specs.Prelude.{◌≡◌, ◌+◌, ◌-◌, ◌*◌, ◌/�
 ghost use Rattle.bits.specs.Bits.{put_bits, with_field};
 ghost use Rattle.bits.specs.Values.{side_by_side};
 ghost use Rattle.samples.specs.Internal.Samples.{samples_written, SamplesFit};
+ghost use Rattle.samples.specs.Internal.Row.{InImage, InData, Packed, written_at};
 ghost use Rattle.samples.specs.Internal.Groups.{joined};
 
+use crate::row::Row;
 use bits::bytes::{get_be, put_be};
 
 // x followed by v, a number of `width` bits.
@@ -35,148 +37,176 @@ fn put_packed(img: &mut [u8], at: usize, width: usize, n: usize, v: u64)
     put_be(img, i, n, exchange(x, 8 * n - at % 8 - width, width, v));
 }
 
-// Samples of `size` bytes, side by side from index `from` of `dat` on: their low `width` bits into `img`, one every
-// `step` bits from bit `at` on.
-fn pack_by_bits(
-    dat: &[u8],
-    from: usize,
-    size: usize,
-    img: &mut [u8],
-    at: usize,
-    step: usize,
-    width: usize,
-    count: usize,
-)
-    requires data_holds { (width ≤ 64) × (size ≤ 8) × (from + count * size ≤ length dat.now) }
-    requires image_holds { (at + count * step + width < 2 ^ 63) × (at + count * step + width ≤ 8 * length img.old + step) }
-    ensures { img.new
-        ≡ samples_written dat.now from size width at step count img.old }
+// Samples that stand side by side in `dat`: their low bits go to a row of `img`.
+fn pack_by_bits(dat: &[u8], row: Row, img: &mut [u8])
+    requires data_holds { InData row (length dat.now) }
+    requires image_holds { InImage row (length img.old) }
+    ensures { img.new ≡ written_at dat.now row img.old }
 {
+    let Row {
+        at,
+        step,
+        width,
+        size,
+        count,
+        data_at,
+    } = row;
+    // by number: a range in steps of bits, zipped with chunks of bytes, is no plainer
     for k in 0..count {
-        let v = get_be(dat, from + k * size, size);
+        let v = get_be(dat, data_at + k * size, size);
         bits::put_bits(img, at + k * step, width, v);
     }
 }
 
-// The same for samples of `width` bits, by a change of `size` + 1 bytes at once for each.
-fn pack_by_bytes(
-    dat: &[u8],
-    from: usize,
-    size: usize,
-    img: &mut [u8],
-    at: usize,
-    step: usize,
-    width: usize,
-    count: usize,
-)
-    requires data_holds { (width < 8 * size) × (size < 7) × (from + count * size ≤ length dat.now) }
-    requires image_holds { (at + count * step < 2 ^ 63) × ((at + count * step) / 8 + size < length img.old) }
-    requires samples_fit { SamplesFit dat.now from size width count }
-    ensures { img.new
-        ≡ samples_written dat.now from size width at step count img.old }
+// The same for samples without bits above their width, by a change of `size` + 1 bytes at once for each. In line, since
+// it is compiled for each size apart only there.
+#[inline(always)]
+fn pack_by_bytes(dat: &[u8], row: Row, img: &mut [u8])
+    requires data_holds { InData row (length dat.now) }
+    requires image_holds { (row.size < 7) × ((row.at + row.count * row.step) / 8 + row.size < length img.old) }
+    requires samples_fit { Packed dat.now row }
+    ensures { img.new ≡ written_at dat.now row img.old }
 {
+    let Row {
+        at,
+        step,
+        width,
+        size,
+        count,
+        data_at,
+    } = row;
+    // by number: a range in steps of bits, zipped with chunks of bytes, is no plainer
     for k in 0..count {
-        let v = get_be(dat, from + k * size, size);
+        let v = get_be(dat, data_at + k * size, size);
         put_packed(img, at + k * step, width, size + 1, v);
     }
 }
 
 // The same: by bytes where those of every sample are inside `img`, with a loop of its own for each common size; else by
 // bits.
-fn pack_each(
-    dat: &[u8],
-    from: usize,
-    size: usize,
-    img: &mut [u8],
-    at: usize,
-    step: usize,
-    width: usize,
-    count: usize,
-)
-    requires data_holds { (width < 8 * size) × (size ≤ 8) × (from + count * size ≤ length dat.now) }
-    requires image_holds { (at + count * step + width < 2 ^ 63) × (at + count * step + width ≤ 8 * length img.old + step) }
-    requires samples_fit { SamplesFit dat.now from size width count }
-    ensures { img.new
-        ≡ samples_written dat.now from size width at step count img.old }
+fn pack_each(dat: &[u8], row: Row, img: &mut [u8])
+    requires data_holds { InData row (length dat.now) }
+    requires image_holds { InImage row (length img.old) }
+    requires samples_fit { Packed dat.now row }
+    ensures { img.new ≡ written_at dat.now row img.old }
 {
-    if (at + count * step) / 8 + size >= img.len() {
-        pack_by_bits(dat, from, size, img, at, step, width, count);
+    if (row.at + row.count * row.step) / 8 + row.size >= img.len() {
+        pack_by_bits(dat, row, img);
         return;
     }
     // samples of one byte may lie closer than two bytes, and then each change would wait for the store before it
-    match size {
-        2 => pack_by_bytes(dat, from, 2, img, at, step, width, count),
-        4 => pack_by_bytes(dat, from, 4, img, at, step, width, count),
-        _ => pack_by_bits(dat, from, size, img, at, step, width, count),
+    match row.size {
+        2 => pack_by_bytes(dat, row.of_size(2), img),
+        4 => pack_by_bytes(dat, row.of_size(4), img),
+        _ => pack_by_bits(dat, row, img),
     }
 }
 
-// `group` samples of `width` bits, one after the other, as one number.
-fn join(dat: &[u8], from: usize, size: usize, width: usize, group: usize) -> u64
-    requires group_fits { (size ≤ 8) × (width < 64) × (group * width ≤ 64) × (from + group * size ≤ length dat.now) }
-    requires samples_fit { SamplesFit dat.now from size width group }
-    ensures { result ≡ joined (side_by_side dat.now from size) width group }
+// Groups of samples side by side, each of which fills whole bytes.
+#[derive(Clone, Copy)]
+struct Groups {
+    // The index of their first byte in the image.
+    at: usize,
+    // Bits of a sample in the image, and its big-endian bytes in the data.
+    width: usize,
+    size: usize,
+    // The samples of a group, the bytes that they fill, and how many groups.
+    samples: usize,
+    bytes: usize,
+    count: usize,
+    // The index of the first sample in the data.
+    data_at: usize,
+    ghost size_fits: { size ≤ 8 },
+    ghost width_fits: { width < 64 },
+    ghost whole_bytes: { samples * width ≡ 8 * bytes },
+    ghost bytes_fit: { bytes ≤ 8 },
+}
+
+impl Groups {
+    // The same with `size`, which is their own: a literal is then known to the loop they go to.
+    fn of_size(self, size: usize) -> Groups
+        requires { size ≡ self.size }
+        ensures { result ≡ self }
+    {
+        Groups {
+            at: self.at,
+            width: self.width,
+            size,
+            samples: self.samples,
+            bytes: self.bytes,
+            count: self.count,
+            data_at: self.data_at,
+        }
+    }
+
+    // The same of pairs of 12 bits in two bytes each, with their numbers as literals.
+    fn pairs(self) -> Groups
+        requires { (self.size ≡ 2) × (self.width ≡ 12) × (self.samples ≡ 2) }
+        ensures { result ≡ self }
+    {
+        Groups {
+            at: self.at,
+            width: 12,
+            size: 2,
+            samples: 2,
+            bytes: 3,
+            count: self.count,
+            data_at: self.data_at,
+        }
+    }
+}
+
+// The samples of a group, from index `from` of `dat` on, as one number.
+fn join(dat: &[u8], from: usize, groups: Groups) -> u64
+    requires data_holds { from + groups.samples * groups.size ≤ length dat.now }
+    requires samples_fit { SamplesFit dat.now from groups.size groups.width groups.samples }
+    ensures { result ≡ joined (side_by_side dat.now from groups.size) groups.width groups.samples }
 {
     let mut acc: u64 = 0;
-    for k in 0..group {
-        let v = get_be(dat, from + k * size, size);
-        acc = append(acc, width, v);
+    // by number: over chunks the proof goes back from each to its place in `dat`, no plainer
+    for k in 0..groups.samples {
+        let v = get_be(dat, from + k * groups.size, groups.size);
+        acc = append(acc, groups.width, v);
     }
     acc
 }
 
-// n groups of samples of `width` bits, side by side in `dat`, into `img`, side by side from index q on. A group fills
-// `bytes` bytes.
-fn pack_groups_any(
-    dat: &[u8],
-    from: usize,
-    size: usize,
-    img: &mut [u8],
-    q: usize,
-    width: usize,
-    group: usize,
-    bytes: usize,
-    n: usize,
-)
-    requires group_fits { (size ≤ 8) × (width < 64) × (group * width ≡ 8 * bytes) × (bytes ≤ 8) }
-    requires buffers_hold { (from + n * (group * size) ≤ length dat.now) × (q + n * bytes ≤ length img.old) }
-    requires samples_fit { SamplesFit dat.now from size width (n * group) }
+// Groups of samples that stand side by side in `dat` go to `img`.
+fn pack_groups_any(dat: &[u8], groups: Groups, img: &mut [u8])
+    requires data_holds { groups.data_at + groups.count * (groups.samples * groups.size) ≤ length dat.now }
+    requires image_holds { groups.at + groups.count * groups.bytes ≤ length img.old }
+    requires samples_fit { SamplesFit dat.now groups.data_at groups.size groups.width (groups.count * groups.samples) }
     ensures { img.new
-        ≡ samples_written dat.now from size width (8 * q) width (n * group) img.old }
+        ≡ samples_written dat.now groups.data_at groups.size groups.width (8 * groups.at) groups.width
+        (groups.count * groups.samples) img.old }
 {
-    for k in 0..n {
-        let v = join(dat, from + k * (group * size), size, width, group);
-        put_be(img, q + k * bytes, bytes, v);
+    // by number, the one that both places are said by: chunks of two slices, zipped, are no plainer
+    for k in 0..groups.count {
+        let from = groups.data_at + k * (groups.samples * groups.size);
+        let v = join(dat, from, groups);
+        put_be(img, groups.at + k * groups.bytes, groups.bytes, v);
     }
 }
 
 // The same, with a loop of its own for pairs of 12 bits and for each common size.
-fn pack_groups(
-    dat: &[u8],
-    from: usize,
-    size: usize,
-    img: &mut [u8],
-    q: usize,
-    width: usize,
-    group: usize,
-    bytes: usize,
-    n: usize,
-)
-    requires group_fits { (size ≤ 8) × (width < 64) × (group * width ≡ 8 * bytes) × (bytes ≤ 8) }
-    requires buffers_hold { (from + n * (group * size) ≤ length dat.now) × (q + n * bytes ≤ length img.old) }
-    requires samples_fit { SamplesFit dat.now from size width (n * group) }
+fn pack_groups(dat: &[u8], groups: Groups, img: &mut [u8])
+    requires data_holds { groups.data_at + groups.count * (groups.samples * groups.size) ≤ length dat.now }
+    requires image_holds { groups.at + groups.count * groups.bytes ≤ length img.old }
+    requires samples_fit { SamplesFit dat.now groups.data_at groups.size groups.width (groups.count * groups.samples) }
     ensures { img.new
-        ≡ samples_written dat.now from size width (8 * q) width (n * group) img.old }
+        ≡ samples_written dat.now groups.data_at groups.size groups.width (8 * groups.at) groups.width
+        (groups.count * groups.samples) img.old }
 {
-    if size == 2 && width == 12 && group == 2 {
-        pack_groups_any(dat, from, 2, img, q, 12, 2, 3, n);
+    if groups.size == 2 && groups.width == 12 && groups.samples == 2 {
+        pack_groups_any(dat, groups.pairs(), img);
         return;
     }
-    match size {
-        1 => pack_groups_any(dat, from, 1, img, q, width, group, bytes, n),
-        2 => pack_groups_any(dat, from, 2, img, q, width, group, bytes, n),
-        4 => pack_groups_any(dat, from, 4, img, q, width, group, bytes, n),
-        _ => pack_groups_any(dat, from, size, img, q, width, group, bytes, n),
+    // clang compiles the loop for each literal
+    match groups.size {
+        1 => pack_groups_any(dat, groups.of_size(1), img),
+        2 => pack_groups_any(dat, groups.of_size(2), img),
+        4 => pack_groups_any(dat, groups.of_size(4), img),
+        _ => pack_groups_any(dat, groups, img),
     }
 }
 
@@ -196,107 +226,67 @@ fn group_of(width: usize) -> usize
     }
 }
 
-// How many samples, side by side from bit `at` on, come before one that starts at a whole byte; all of them if none
-// does.
-fn before_byte(at: usize, width: usize, count: usize) -> usize
-    requires { at + count * width < 2 ^ 63 }
-    ensures { result ≤ count }
+// How many samples of a row come before one that starts at a whole byte; all of them if none does.
+fn before_byte(row: Row) -> usize
+    ensures { result ≤ row.count }
 {
-    let mut k = 0;
-    while k < count && (at + k * width) % 8 != 0 {
-        k += 1;
-    }
-    k
+    (0..row.count)
+        .find(|k| (row.at + *k * row.step) % 8 == 0)
+        .unwrap_or(row.count)
 }
 
-// Samples side by side from bit `at` on: in groups where that is a whole byte and a group fits a number, and the rest
-// one by one.
-fn pack_grouped(
-    dat: &[u8],
-    from: usize,
-    size: usize,
-    img: &mut [u8],
-    at: usize,
-    width: usize,
-    count: usize,
-)
-    requires data_holds { (width < 8 * size) × (size ≤ 8) × (from + count * size ≤ length dat.now) }
-    requires image_holds { (at + count * width + width < 2 ^ 63) × (at + count * width ≤ 8 * length img.old) }
-    requires samples_fit { SamplesFit dat.now from size width count }
-    ensures { img.new
-        ≡ samples_written dat.now from size width at width count img.old }
+// Samples side by side in `img`: in groups where the first starts at a whole byte and a group fits a number, and the
+// rest one by one.
+fn pack_grouped(dat: &[u8], row: Row, img: &mut [u8])
+    requires side_by_side { row.step ≡ row.width }
+    requires data_holds { InData row (length dat.now) }
+    requires image_holds { InImage row (length img.old) }
+    requires samples_fit { Packed dat.now row }
+    ensures { img.new ≡ written_at dat.now row img.old }
 {
-    let group = group_of(width);
-    let bytes = group * width / 8;
-    if at % 8 == 0 && bytes <= 8 {
-        let n = count / group;
-        let done = n * group;
-        pack_groups(dat, from, size, img, at / 8, width, group, bytes, n);
-        pack_each(
-            dat,
-            from + done * size,
-            size,
-            img,
-            at + done * width,
-            width,
-            width,
-            count - done,
-        );
+    let group = group_of(row.width);
+    let bytes = group * row.width / 8;
+    if row.at % 8 == 0 && bytes <= 8 {
+        let n = row.count / group;
+        let groups = Groups {
+            at: row.at / 8,
+            width: row.width,
+            size: row.size,
+            samples: group,
+            bytes,
+            count: n,
+            data_at: row.data_at,
+        };
+        pack_groups(dat, groups, img);
+        pack_each(dat, row.skip(n * group), img);
     } else {
-        pack_each(dat, from, size, img, at, width, width, count);
+        pack_each(dat, row, img);
     }
 }
 
-// Samples side by side: one by one up to a whole byte, and then in groups.
-fn pack_side_by_side(
-    dat: &[u8],
-    from: usize,
-    size: usize,
-    img: &mut [u8],
-    at: usize,
-    width: usize,
-    count: usize,
-)
-    requires data_holds { (width < 8 * size) × (size ≤ 8) × (from + count * size ≤ length dat.now) }
-    requires image_holds { (at + count * width + width < 2 ^ 63) × (at + count * width ≤ 8 * length img.old) }
-    requires samples_fit { SamplesFit dat.now from size width count }
-    ensures { img.new
-        ≡ samples_written dat.now from size width at width count img.old }
+// Samples side by side in `img`: one by one up to a whole byte, and then in groups.
+fn pack_side_by_side(dat: &[u8], row: Row, img: &mut [u8])
+    requires side_by_side { row.step ≡ row.width }
+    requires data_holds { InData row (length dat.now) }
+    requires image_holds { InImage row (length img.old) }
+    requires samples_fit { Packed dat.now row }
+    ensures { img.new ≡ written_at dat.now row img.old }
 {
-    let head = before_byte(at, width, count);
-    pack_each(dat, from, size, img, at, width, width, head);
-    pack_grouped(
-        dat,
-        from + head * size,
-        size,
-        img,
-        at + head * width,
-        width,
-        count - head,
-    );
+    let head = before_byte(row);
+    pack_each(dat, row.first(head), img);
+    pack_grouped(dat, row.skip(head), img);
 }
 
-// Samples of `width` bits in `size` bytes each, side by side from index `from` of `dat` on, into `img`, one every
-// `step` bits from bit `at` on.
-pub fn pack(
-    dat: &[u8],
-    from: usize,
-    size: usize,
-    img: &mut [u8],
-    at: usize,
-    step: usize,
-    width: usize,
-    count: usize,
-)
-    requires data_holds { (width < 8 * size) × (size ≤ 8) × (from + count * size ≤ length dat.now) }
-    requires image_holds { (at + count * step + width < 2 ^ 63) × (at + count * step + width ≤ 8 * length img.old + step) }
-    requires samples_fit { SamplesFit dat.now from size width count }
-    ensures { img.new
-        ≡ samples_written dat.now from size width at step count img.old }
+// Samples without bits above their width, which stand side by side in `dat`, go to a row of `img`.
+pub fn pack(dat: &[u8], row: Row, img: &mut [u8])
+    requires data_holds { InData row (length dat.now) }
+    requires image_holds { InImage row (length img.old) }
+    requires samples_fit { Packed dat.now row }
+    ensures { img.new ≡ written_at dat.now row img.old }
 {
-    if step == width {
-        pack_side_by_side(dat, from, size, img, at, width, count)
+    if row.step == row.width {
+        pack_side_by_side(dat, row, img)
     } else {
-        pack_each(dat, from, size, img, at, step, width, count)
+        pack_each(dat, row, img)
     }
 }

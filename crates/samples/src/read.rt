@@ -1,73 +1,64 @@
 // Samples out of an image.
-ghost use Rattle.std.specs.Prelude.{◌≡◌, ◌+◌, ◌*◌, ◌%◌, ◌^◌, ◌≤◌, ◌<◌, length};
-ghost use Rattle.samples.specs.Internal.Samples.{samples_read};
+ghost use Rattle.std.specs.Prelude.{◌≡◌, ◌*◌, ◌≤◌, ◌<◌, length};
+ghost use Rattle.samples.specs.Internal.Row.{InImage, InData, AtBytes, read_at};
+ghost use Rattle.samples.specs.Internal.Row.{InImageBytes, InDataBytes, bytes_read_at};
 
+use crate::row::{ByteRow, Row};
 use crate::unpack::unpack;
 use bits::bytes::{copy, get_be, put_be};
 
-// Samples of `size` bytes, one every `step` bytes from index `at` of `src` on.
-pub fn gather_any(
-    src: &[u8],
-    at: usize,
-    step: usize,
-    size: usize,
-    count: usize,
-    out: &mut [u8],
-    to: usize,
-)
-    requires { (size ≤ 8) × (at + count * step + size ≤ length src.now + step)
-        × (to + count * size ≤ length out.old) }
-    ensures { out.new
-        ≡ samples_read src.now (8 * at) (8 * step) (8 * size) size count to out.old }
+// The samples of a row of whole bytes of `src` go side by side to `out`.
+pub fn gather_any(src: &[u8], row: ByteRow, out: &mut [u8])
+    requires src_holds { InImageBytes row (length src.now) }
+    requires out_holds { InDataBytes row (length out.old) }
+    ensures { out.new ≡ bytes_read_at src.now row out.old }
 {
+    let ByteRow {
+        at,
+        step,
+        size,
+        count,
+        data_at,
+    } = row;
+    // by number, the one that both places are said by: chunks of two slices, zipped, are no plainer
     for k in 0..count {
         let v = get_be(src, at + k * step, size);
-        put_be(out, to + k * size, size, v);
+        put_be(out, data_at + k * size, size, v);
     }
 }
 
 // The same, with a loop of its own for each common size, and one copy where the samples stand side by side.
-fn gather(src: &[u8], at: usize, step: usize, size: usize, count: usize, out: &mut [u8], to: usize)
-    requires { (size ≤ 8) × (at + count * step + size ≤ length src.now + step)
-        × (to + count * size ≤ length out.old) }
-    ensures { out.new
-        ≡ samples_read src.now (8 * at) (8 * step) (8 * size) size count to out.old }
+fn gather(src: &[u8], row: ByteRow, out: &mut [u8])
+    requires src_holds { InImageBytes row (length src.now) }
+    requires out_holds { InDataBytes row (length out.old) }
+    ensures { out.new ≡ bytes_read_at src.now row out.old }
 {
-    if step == size {
-        copy(src, at, count * size, out, to);
+    if row.step == row.size {
+        copy(src, row.at, row.count * row.size, out, row.data_at);
         return;
     }
-    match size {
-        1 => gather_any(src, at, step, 1, count, out, to),
-        2 => gather_any(src, at, step, 2, count, out, to),
-        3 => gather_any(src, at, step, 3, count, out, to),
-        4 => gather_any(src, at, step, 4, count, out, to),
-        8 => gather_any(src, at, step, 8, count, out, to),
-        _ => gather_any(src, at, step, size, count, out, to),
+    // clang compiles a loop for each literal; tried: a helper with a closure, but no proof tells what that did to `out`
+    match row.size {
+        1 => gather_any(src, row.of_size(1), out),
+        2 => gather_any(src, row.of_size(2), out),
+        3 => gather_any(src, row.of_size(3), out),
+        4 => gather_any(src, row.of_size(4), out),
+        8 => gather_any(src, row.of_size(8), out),
+        _ => gather_any(src, row, out),
     }
 }
 
-// `count` samples of `width` bits, one every `step` bits from bit `at` of `src` on, go to index `to` of `out` on, in
-// `size` big-endian bytes each.
-pub fn read_samples(
-    src: &[u8],
-    at: usize,
-    step: usize,
-    width: usize,
-    size: usize,
-    count: usize,
-    out: &mut [u8],
-    to: usize,
-)
-    requires width_fits { (width ≤ 8 * size) × (size ≤ 8) × ((width < 8 * size → width ≤ 57)) }
-    requires whole_bytes { width ≡ 8 * size → (at % 8 ≡ 0) × (step % 8 ≡ 0) }
-    requires buffers_hold { (at + count * step + width < 2 ^ 63) × (at + count * step + width ≤ 8 * length src.now + step)
-        × (to + count * size ≤ length out.old) }
-    ensures { out.new ≡ samples_read src.now at step width size count to out.old }
+// The samples of a row of `src` go side by side to `out`.
+pub fn read_samples(src: &[u8], row: Row, out: &mut [u8])
+    requires narrow { row.width < 8 * row.size → row.width ≤ 57 }
+    requires whole_bytes { AtBytes row }
+    requires src_holds { InImage row (length src.now) }
+    requires out_holds { InData row (length out.old) }
+    ensures { out.new ≡ read_at src.now row out.old }
 {
-    if width == 8 * size {
-        gather(src, at / 8, step / 8, size, count, out, to)
+    if row.width == 8 * row.size {
+        gather(src, row.bytes(), out)
     } else {
-        unpack(src, at, step, width, size, count, out, to)
+        unpack(src, row, out)
     }
 }

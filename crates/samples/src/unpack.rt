@@ -1,8 +1,9 @@
 // Samples of any width out of an image.
 ghost use Rattle.std.specs.Prelude.{◌≡◌, ◌+◌, ◌*◌, ◌/◌, ◌%◌, ◌^◌, ◌≤◌, ◌<◌, length};
 ghost use Rattle.bits.specs.Bits.{bits_at};
-ghost use Rattle.samples.specs.Internal.Samples.{samples_read};
+ghost use Rattle.samples.specs.Internal.Row.{InImage, InData, EightEach, read_at};
 
+use crate::row::Row;
 use bits::bytes::{get_be, put_be};
 
 // The number in the `width` bits of `src` from bit `at` on, out of the eight bytes from its first on.
@@ -27,89 +28,79 @@ fn get_packed(src: &[u8], at: usize, width: usize) -> u64
     }
 }
 
-// Samples of `width` bits, one every `step` bits from bit `at` of `src` on, into `size` bytes each. Eight bytes are
-// there for each:
-// a test for them would make the loop too large to be compiled for each size apart.
-fn unpack_by_eight_any(
-    src: &[u8],
-    at: usize,
-    step: usize,
-    width: usize,
-    size: usize,
-    count: usize,
-    out: &mut [u8],
-    to: usize,
-)
-    requires width_fits { (width ≤ 57) × (size ≤ 8) × (at + count * step + width < 2 ^ 63) }
-    requires buffers_hold { ((0 < count → (at + count * step) / 8 + 8 ≤ length src.now))
-        × (to + count * size ≤ length out.old) }
-    ensures { out.new ≡ samples_read src.now at step width size count to out.old }
+// The samples of a row of `src` go side by side to `out`. Eight bytes are there for each: a test for them would make
+// the loop too large to be compiled for each size apart.
+fn unpack_by_eight_any(src: &[u8], row: Row, out: &mut [u8])
+    requires narrow { row.width ≤ 57 }
+    requires eight_each { EightEach row (length src.now) }
+    requires out_holds { InData row (length out.old) }
+    ensures { out.new ≡ read_at src.now row out.old }
 {
+    let Row {
+        at,
+        step,
+        width,
+        size,
+        count,
+        data_at,
+    } = row;
+    // by number: a range in steps of bits, zipped with chunks of bytes, is no plainer
     for k in 0..count {
         let v = get_by_eight(src, at + k * step, width);
-        put_be(out, to + k * size, size, v);
+        put_be(out, data_at + k * size, size, v);
     }
 }
 
 // The same, with a loop of its own for each common size.
-fn unpack_by_eight(
-    src: &[u8],
-    at: usize,
-    step: usize,
-    width: usize,
-    size: usize,
-    count: usize,
-    out: &mut [u8],
-    to: usize,
-)
-    requires width_fits { (width ≤ 57) × (size ≤ 8) × (at + count * step + width < 2 ^ 63) }
-    requires buffers_hold { ((0 < count → (at + count * step) / 8 + 8 ≤ length src.now))
-        × (to + count * size ≤ length out.old) }
-    ensures { out.new ≡ samples_read src.now at step width size count to out.old }
+fn unpack_by_eight(src: &[u8], row: Row, out: &mut [u8])
+    requires narrow { row.width ≤ 57 }
+    requires eight_each { EightEach row (length src.now) }
+    requires out_holds { InData row (length out.old) }
+    ensures { out.new ≡ read_at src.now row out.old }
 {
-    match size {
-        1 => unpack_by_eight_any(src, at, step, width, 1, count, out, to),
-        2 => unpack_by_eight_any(src, at, step, width, 2, count, out, to),
-        4 => unpack_by_eight_any(src, at, step, width, 4, count, out, to),
-        _ => unpack_by_eight_any(src, at, step, width, size, count, out, to),
+    // clang compiles the loop for each literal
+    match row.size {
+        1 => unpack_by_eight_any(src, row.of_size(1), out),
+        2 => unpack_by_eight_any(src, row.of_size(2), out),
+        4 => unpack_by_eight_any(src, row.of_size(4), out),
+        _ => unpack_by_eight_any(src, row, out),
     }
 }
 
 // The same, also where eight bytes are not there for each.
-fn unpack_rest(
-    src: &[u8],
-    at: usize,
-    step: usize,
-    width: usize,
-    size: usize,
-    count: usize,
-    out: &mut [u8],
-    to: usize,
-)
-    requires width_fits { (width ≤ 57) × (size ≤ 8) × (at + count * step + width < 2 ^ 63) }
-    requires buffers_hold { (at + count * step + width ≤ 8 * length src.now + step) × (to + count * size ≤ length out.old) }
-    ensures { out.new ≡ samples_read src.now at step width size count to out.old }
+fn unpack_rest(src: &[u8], row: Row, out: &mut [u8])
+    requires narrow { row.width ≤ 57 }
+    requires src_holds { InImage row (length src.now) }
+    requires out_holds { InData row (length out.old) }
+    ensures { out.new ≡ read_at src.now row out.old }
 {
+    let Row {
+        at,
+        step,
+        width,
+        size,
+        count,
+        data_at,
+    } = row;
+    // by number: a range in steps of bits, zipped with chunks of bytes, is no plainer
     for k in 0..count {
         let v = get_packed(src, at + k * step, width);
-        put_be(out, to + k * size, size, v);
+        put_be(out, data_at + k * size, size, v);
     }
 }
 
-// How many of `count` samples, one every `step` bits from bit `at` of `bytes` bytes on, are taken by eight bytes: all,
-// all but the last 64, or none.
-fn count_by_eight(bytes: usize, at: usize, step: usize, count: usize) -> usize
-    requires { at + count * step < 2 ^ 63 }
-    ensures { (result ≤ count) × ((0 < result → (at + result * step) / 8 + 8 ≤ bytes)) }
+// How many samples of a row in `bytes` bytes are taken by eight bytes: all, all but the last 64, or none.
+fn count_by_eight(bytes: usize, row: Row) -> usize
+    ensures { (result ≤ row.count) × ((0 < result → (row.at + result * row.step) / 8 + 8 ≤ bytes)) }
 {
-    if (at + count * step) / 8 + 8 <= bytes {
-        return count;
+    if (row.at + row.count * row.step) / 8 + 8 <= bytes {
+        return row.count;
     }
-    if count <= 64 {
+    if row.count <= 64 {
         return 0;
     }
-    let most = count - 64;
-    if (at + most * step) / 8 + 8 <= bytes {
+    let most = row.count - 64;
+    if (row.at + most * row.step) / 8 + 8 <= bytes {
         most
     } else {
         0
@@ -117,30 +108,13 @@ fn count_by_eight(bytes: usize, at: usize, step: usize, count: usize) -> usize
 }
 
 // The same as `unpack_rest`, by eight bytes as far as they are there.
-pub fn unpack(
-    src: &[u8],
-    at: usize,
-    step: usize,
-    width: usize,
-    size: usize,
-    count: usize,
-    out: &mut [u8],
-    to: usize,
-)
-    requires width_fits { (width ≤ 57) × (size ≤ 8) × (at + count * step + width < 2 ^ 63) }
-    requires buffers_hold { (at + count * step + width ≤ 8 * length src.now + step) × (to + count * size ≤ length out.old) }
-    ensures { out.new ≡ samples_read src.now at step width size count to out.old }
+pub(crate) fn unpack(src: &[u8], row: Row, out: &mut [u8])
+    requires narrow { row.width ≤ 57 }
+    requires src_holds { InImage row (length src.now) }
+    requires out_holds { InData row (length out.old) }
+    ensures { out.new ≡ read_at src.now row out.old }
 {
-    let most = count_by_eight(src.len(), at, step, count);
-    unpack_by_eight(src, at, step, width, size, most, out, to);
-    unpack_rest(
-        src,
-        at + most * step,
-        step,
-        width,
-        size,
-        count - most,
-        out,
-        to + most * size,
-    );
+    let most = count_by_eight(src.len(), row);
+    unpack_by_eight(src, row.first(most), out);
+    unpack_rest(src, row.skip(most), out);
 }

@@ -26,20 +26,19 @@ use Rattle.fields.specs.declared.named.PixelValueType.TheVariants.{UnsignedInt}
 use Rattle.fields.specs.declared.named.PixelJustification.TheVariants.{Right}
 use Rattle.fields.specs.declared.named.ImageCompression.TheVariants.{NC}
 use Rattle.subheader.specs.declared.ImageSubheader.{ImageSubheader}
-use Rattle.subheader.specs.declared.ReadSubheader.{ReadSubheader}
 use Rattle.fields.specs.Named.{is_named, value_of, pvtypes, pvtype_text, pjusts, pjust_text}
 use Rattle.fields.specs.Named.{ics, ic_text, imodes, imode_text}
 use Rattle.fields.specs.declared.Field.{Field}
 use Rattle.fields.specs.Fields.{field, number, bytes_in, is_number, number_in, Entry, put_all, NROWS, NCOLS, PVTYPE, IREP}
 use Rattle.fields.specs.Fields.{ICAT, ABPP, PJUST, IC, IMODE, NBPR, NBPC, NPPBH, NPPBV, NBPP, text}
 use Rattle.fields.specs.Sides.{effective, written_side}
-use Rattle.subheader.specs.Subheader.{parts_fit, first_numbers, third_numbers, q23, q24}
+use Rattle.subheader.specs.Subheader.{ReadSubheader, parts_fit, first_numbers, third_numbers, q23, q24}
 use Rattle.subheader.specs.Subheader.{grid_of_parts, fields_in, read_number, read_as, read_subheader, write_number}
 use Rattle.subheader.specs.Subheader.{q24_write, first_entries, second_entries, third_entries, PartsOut, write_subheader}
 use Rattle.subheader.specs.RoundTrip.{RuleNotWritten, Eights, read_back, WrittenReadsBack, ReadWrittenAgain}
 use Rattle.fields.proofs.Entries.{Fits, Laid, laid_reads, length-put_all, length-bytes_in, bytes_in-front}
 use Rattle.fields.proofs.Values.{pvtype_back, pjust_back, ic_back, imode_back}
-use Rattle.subheader.proofs.Parts.{held, Held, lengths, fit, numbered, ready}
+use Rattle.subheader.proofs.Parts.{held, Held, numbered}
 
 -- ---- sides of a block
 
@@ -289,15 +288,14 @@ read first second third bands edges e =
     let n : read_number first second third bands edges ≡ 0 = outcome-zero _ _ _ (λ (r : ReadSubheader). r.number) (λ k. refl) e in
     let a = ask-inv 23 (q23 first second third) _ (lit< tt) n in
     let b = ask-inv 24 (q24 first second third) _ (lit< tt) a.1 in
-    let l = lengths _ _ _ (fit first second third a.0) in
-    let d = (ready (numbered first second third a.0)).abpp.1 in
-    let two : length (bytes_in first ABPP) ≡ 2 = length-bytes_in first ABPP (omega (arith, l.first)) in
-    let top : number_in first ABPP < 10 ^ 2 = rw two at (number_lt (bytes_in first ABPP) d) in
+    let d = numbered first second third a.0 in
+    let two : length (bytes_in first ABPP) ≡ 2 = length-bytes_in first ABPP (omega arith) in
+    let top : number_in first ABPP < 10 ^ 2 = rw two at (number_lt (bytes_in first ABPP) d.abpp) in
     record {
       is = outcome-yes _ _ n;
       eights = record {
-        irep_eight = length-bytes_in first IREP (omega (arith, l.first));
-        icat_eight = length-bytes_in first ICAT (omega (arith, l.first));
+        irep_eight = length-bytes_in first IREP (omega (arith, d.first-length));
+        icat_eight = length-bytes_in first ICAT (omega (arith, d.first-length));
       };
       abpp-le = omega (arith, top);
       accepted = b.1;

@@ -5,8 +5,7 @@ use Rattle.std.specs.Prelude.{ℕ, ◌≡◌, true, List, length, take}
 use Rattle.grid.specs.declared.EdgeRule.{EdgeRule}
 use Rattle.grid.specs.EdgeRules.{with_rule}
 use Rattle.subheader.specs.declared.ImageSubheader.{ImageSubheader}
-use Rattle.subheader.specs.declared.ReadSubheader.{ReadSubheader}
-use Rattle.subheader.specs.Subheader.{PartsOut, q9_write, read_as, read_subheader, write_subheader}
+use Rattle.subheader.specs.Subheader.{PartsOut, ReadSubheader, q9_write, read_as, read_subheader, write_subheader}
 
 -- what the reader answers for the parts that the writer left, at the front of its outputs
 abbrev pub read_back : PartsOut → ℕ → EdgeRule → ReadSubheader

@@ -1,9 +1,11 @@
 -- Reading and writing the three parts.
 -- Assumes nothing.
-use Rattle.std.specs.Prelude.{ℕ, Bool, List, [], ◌∷◌, ◌++◌, leb, eqb, length, replicate}
+use Rattle.std.specs.Prelude.{ℕ, Bool, List, [], ◌∷◌, ◌++◌, leb, eqb, length, replicate, Result, Ok, Err}
 use Rattle.common.specs.Questions.{ask, outcome}
 use Rattle.common.specs.Tests.{every}
 use Rattle.layout.specs.declared.InterleaveMode.TheVariants.{B}
+use Rattle.refusals.specs.declared.Refusal.{Refusal}
+use Rattle.refusals.specs.Refusals.{number_of}
 use Rattle.grid.specs.declared.EdgeRule.{EdgeRule}
 use Rattle.grid.specs.declared.EdgeRule.TheVariants.{Tight}
 use Rattle.grid.specs.declared.Grid.{Grid}
@@ -12,7 +14,6 @@ use Rattle.fields.specs.declared.named.PixelValueType.TheVariants.{UnsignedInt}
 use Rattle.fields.specs.declared.named.PixelJustification.TheVariants.{Right}
 use Rattle.fields.specs.declared.named.ImageCompression.TheVariants.{NC}
 use Rattle.subheader.specs.declared.ImageSubheader.{ImageSubheader}
-use Rattle.subheader.specs.declared.ReadSubheader.{ReadSubheader}
 use Rattle.fields.specs.Named.{is_named, value_of, pvtypes, pvtype_text, pjusts, pjust_text, ics, ic_text}
 use Rattle.fields.specs.Named.{imodes, imode_text}
 use Rattle.fields.specs.Sides.{effective, written_side}
@@ -122,8 +123,18 @@ no_subheader =
       grid = no_grid;
     }
 
+-- the reader's number and the fields
+pub record ReadSubheader : Type 0 where
+  pub number : ℕ
+  pub subheader : ImageSubheader
+
 abbrev pub read_as : ℕ → ImageSubheader → ReadSubheader
 read_as n subheader = record { number = n; subheader = subheader }
+
+-- what an answer says
+abbrev pub read_as_of : Result ImageSubheader Refusal → ReadSubheader
+read_as_of (Ok subheader) = read_as 0 subheader
+read_as_of (Err refusal) = read_as (number_of refusal) no_subheader
 
 -- the reader
 unfoldable pub read_subheader : List ℕ → List ℕ → List ℕ → ℕ → EdgeRule → ReadSubheader

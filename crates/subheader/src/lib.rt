@@ -7,9 +7,10 @@ mod write;
 
 use fields::named::{ImageCompression, PixelJustification, PixelValueType};
 use grid::Grid;
+pub use read::named_value;
 
 // The fields of the three parts. IREP and ICAT are carried unread.
-#[derive(Clone, Copy)]
+#[derive(Clone, Copy, Debug, PartialEq, Eq)]
 pub struct ImageSubheader {
     pub pvtype: PixelValueType,
     pub irep: [u8; 8],
@@ -19,13 +20,6 @@ pub struct ImageSubheader {
     pub pjust: PixelJustification,
     pub ic: ImageCompression,
     pub grid: Grid,
-}
-
-// What the reader answers.
-#[derive(Clone, Copy)]
-pub struct ReadSubheader {
-    pub number: u32,
-    pub subheader: ImageSubheader,
 }
 
 impl ImageSubheader {

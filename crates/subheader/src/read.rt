@@ -1,205 +1,162 @@
 // Reading the three parts.
-ghost use Rattle.std.specs.Prelude.{◌≡◌, true, length};
+ghost use Rattle.std.specs.Prelude.{◌≡◌, true, length, IfOk};
+ghost use Rattle.common.specs.Questions.{ask};
+ghost use Rattle.refusals.specs.Refusals.{answer_number};
+ghost use Rattle.fields.specs.Fields.{bytes_in, IMODE};
+ghost use Rattle.fields.specs.Named.{is_named, value_of, imodes, imode_text};
 ghost use Rattle.subheader.specs.Subheader.{parts_fit, first_numbers, third_numbers, q23, q24};
 ghost use Rattle.subheader.specs.Subheader.{effective_nppbh, effective_nppbv, grid_of_parts, fields_in};
-ghost use Rattle.subheader.specs.Subheader.{no_subheader, read_as, read_subheader};
+ghost use Rattle.subheader.specs.Subheader.{read_as_of, read_subheader};
 ghost use Rattle.subheader.specs.Internal.Parts.{Numbered};
 
-use crate::{ImageSubheader, ReadSubheader};
+use crate::ImageSubheader;
 use fields::Field;
-use fields::named::{
-    ImageCompression, PixelJustification, PixelValueType, mode_from_bytes, mode_is_named,
-};
+use fields::named::Named;
 use fields::sides::effective_side;
 use grid::{EdgeRule, Grid};
-use layout::InterleaveMode;
-
-// Eight bytes by value.
-fn eight_bytes(bytes: &[u8]) -> [u8; 8]
-    requires { length bytes.now ≡ 8 }
-    ensures { result ≡ bytes.now }
-{
-    let mut out = [0u8; 8];
-    for j in 0..8 {
-        out[j] = bytes[j];
-    }
-    out
-}
+use refusals::Refusal;
 
 // Have the parts their lengths?
+#[tactic(auto, unfolding(crate::specs::Subheader::parts_fit, common::specs::Tests::every))]
 fn parts_fit(first: usize, second: usize, third: usize) -> bool
     ensures { result ≡ parts_fit first second third }
 {
-    if first != ImageSubheader::FIRST_BYTES {
-        return false;
-    }
-    if second != ImageSubheader::SECOND_BYTES {
-        return false;
-    }
-    third == ImageSubheader::THIRD_BYTES
+    first == ImageSubheader::FIRST_BYTES
+        && second == ImageSubheader::SECOND_BYTES
+        && third == ImageSubheader::THIRD_BYTES
 }
 
 // Are the numeric fields of the first part all digits?
+#[tactic(auto, unfolding(crate::specs::Subheader::first_numbers, common::specs::Tests::every))]
 fn first_numbers(first: &[u8]) -> bool
     requires { length first.now ≡ 38 }
     ensures { result ≡ first_numbers first.now }
 {
-    if !Field::NROWS.is_number(first) {
-        return false;
-    }
-    if !Field::NCOLS.is_number(first) {
-        return false;
-    }
-    Field::ABPP.is_number(first)
+    Field::NROWS.is_number(first) && Field::NCOLS.is_number(first) && Field::ABPP.is_number(first)
 }
 
 // Are those of the third?
+#[tactic(auto, unfolding(crate::specs::Subheader::third_numbers, common::specs::Tests::every))]
 fn third_numbers(third: &[u8]) -> bool
     requires { length third.now ≡ 19 }
     ensures { result ≡ third_numbers third.now }
 {
-    if !Field::NBPR.is_number(third) {
-        return false;
-    }
-    if !Field::NBPC.is_number(third) {
-        return false;
-    }
-    if !Field::NPPBH.is_number(third) {
-        return false;
-    }
-    if !Field::NPPBV.is_number(third) {
-        return false;
-    }
-    Field::NBPP.is_number(third)
+    Field::NBPR.is_number(third)
+        && Field::NBPC.is_number(third)
+        && Field::NPPBH.is_number(third)
+        && Field::NPPBV.is_number(third)
+        && Field::NBPP.is_number(third)
 }
 
-// Question 23.
+// Have they their lengths, and their numeric fields digits?
+#[tactic(auto, using(crate::proofs::Parts::fits), unfolding(crate::specs::Subheader::q23, common::specs::Tests::every))]
 fn are_parts(first: &[u8], second: &[u8], third: &[u8]) -> bool
     ensures { result ≡ q23 first.now second.now third.now }
 {
-    if !parts_fit(first.len(), second.len(), third.len()) {
-        return false;
-    }
-    if !first_numbers(first) {
-        return false;
-    }
-    third_numbers(third)
+    parts_fit(first.len(), second.len(), third.len())
+        && first_numbers(first)
+        && third_numbers(third)
 }
 
-// Question 24.
-fn are_named(first: &[u8], second: &[u8], third: &[u8]) -> bool
-    requires { parts_fit (length first.now) (length second.now) (length third.now) ≡ true }
-    ensures { result ≡ q24 first.now second.now third.now }
+// The value that is written so; question 24 of one field.
+pub fn named_value<const N: usize, T: Named<N>>(bytes: &[u8]) -> Result<T, Refusal>
+    ensures number { answer_number result ≡ ask 24 (is_named T.text T.values bytes.now) 0 }
+    ensures value { IfOk result (λ value. (other : T) → value ≡ value_of T.text T.values other bytes.now) }
 {
-    if !PixelValueType::is_named(Field::PVTYPE.bytes_in(first)) {
-        return false;
-    }
-    if !PixelJustification::is_named(Field::PJUST.bytes_in(first)) {
-        return false;
-    }
-    if !ImageCompression::is_named(Field::IC.bytes_in(second)) {
-        return false;
-    }
-    mode_is_named(Field::IMODE.bytes_in(third))
+    T::named(bytes).ok_or(Refusal::NamedValue)
 }
 
-// The columns of a block: NPPBH, or NCOLS where NPPBH is zero with NBPR 1.
-pub fn effective_nppbh(first: &[u8], third: &[u8]) -> u32
-    requires { Numbered first.now third.now }
-    ensures { result ≡ effective_nppbh first.now third.now }
-{
-    let nppbh = Field::NPPBH.number_in(third);
-    let nbpr = Field::NBPR.number_in(third);
-    effective_side(nppbh, nbpr, Field::NCOLS.number_in(first))
+// Three parts that question 23 accepts.
+#[derive(Clone, Copy)]
+struct Parts<'a> {
+    first: &'a [u8],
+    second: &'a [u8],
+    third: &'a [u8],
+    ghost numbered: { Numbered first.now second.now third.now },
 }
 
-// The rows of a block: NPPBV, or NROWS where NPPBV is zero with NBPC 1.
-pub fn effective_nppbv(first: &[u8], third: &[u8]) -> u32
-    requires { Numbered first.now third.now }
-    ensures { result ≡ effective_nppbv first.now third.now }
-{
-    let nppbv = Field::NPPBV.number_in(third);
-    let nbpc = Field::NBPC.number_in(third);
-    effective_side(nppbv, nbpc, Field::NROWS.number_in(first))
-}
-
-// The grid of the fields, with so many bands and an edge rule.
-fn grid_of_parts(first: &[u8], third: &[u8], bands: u32, edges: EdgeRule) -> Grid
-    requires { Numbered first.now third.now }
-    ensures { result ≡ grid_of_parts first.now third.now bands edges }
-{
-    Grid {
-        nrows: Field::NROWS.number_in(first),
-        ncols: Field::NCOLS.number_in(first),
-        bands,
-        nbpp: Field::NBPP.number_in(third),
-        imode: mode_from_bytes(Field::IMODE.bytes_in(third)),
-        edges,
-        nppbh: effective_nppbh(first, third),
-        nppbv: effective_nppbv(first, third),
-        nbpr: Field::NBPR.number_in(third),
-        nbpc: Field::NBPC.number_in(third),
+impl<'a> Parts<'a> {
+    // Question 23.
+    #[tactic(auto, using(crate::proofs::Parts::numbered))]
+    fn new(first: &'a [u8], second: &'a [u8], third: &'a [u8]) -> Result<Self, Refusal>
+        ensures number { answer_number result ≡ ask 23 (q23 first.now second.now third.now) 0 }
+        ensures same { IfOk result (λ parts. (parts.first.now ≡ first.now)
+            × (parts.second.now ≡ second.now) × (parts.third.now ≡ third.now)) }
+    {
+        if !are_parts(first, second, third) {
+            return Err(Refusal::SubheaderPart);
+        }
+        Ok(Self {
+            first,
+            second,
+            third,
+        })
     }
-}
 
-// All fields.
-fn fields_in(
-    first: &[u8],
-    second: &[u8],
-    third: &[u8],
-    bands: u32,
-    edges: EdgeRule,
-) -> ImageSubheader
-    requires { q23 first.now second.now third.now ≡ true }
-    ensures { result ≡ fields_in first.now second.now third.now bands edges }
-{
-    ImageSubheader {
-        pvtype: PixelValueType::from_bytes(Field::PVTYPE.bytes_in(first)),
-        irep: eight_bytes(Field::IREP.bytes_in(first)),
-        icat: eight_bytes(Field::ICAT.bytes_in(first)),
-        abpp: Field::ABPP.number_in(first),
-        pjust: PixelJustification::from_bytes(Field::PJUST.bytes_in(first)),
-        ic: ImageCompression::from_bytes(Field::IC.bytes_in(second)),
-        grid: grid_of_parts(first, third, bands, edges),
+    // The columns of a block: NPPBH, or NCOLS where NPPBH is zero with NBPR 1.
+    fn effective_nppbh(self) -> u32
+        ensures { result ≡ effective_nppbh self.entry.first.now self.entry.third.now }
+    {
+        effective_side(
+            Field::NPPBH.number_in(self.third),
+            Field::NBPR.number_in(self.third),
+            Field::NCOLS.number_in(self.first),
+        )
+    }
+
+    // The rows of a block: NPPBV, or NROWS where NPPBV is zero with NBPC 1.
+    fn effective_nppbv(self) -> u32
+        ensures { result ≡ effective_nppbv self.entry.first.now self.entry.third.now }
+    {
+        effective_side(
+            Field::NPPBV.number_in(self.third),
+            Field::NBPC.number_in(self.third),
+            Field::NROWS.number_in(self.first),
+        )
+    }
+
+    // The grid of the fields, with so many bands and an edge rule; question 24 of IMODE.
+    fn grid(self, bands: u32, edges: EdgeRule) -> Result<Grid, Refusal>
+        ensures number { answer_number result
+            ≡ ask 24 (is_named imode_text imodes (bytes_in self.entry.third.now IMODE)) 0 }
+        ensures same { IfOk result (λ grid. grid
+            ≡ grid_of_parts self.entry.first.now self.entry.third.now bands edges) }
+    {
+        Ok(Grid {
+            nrows: Field::NROWS.number_in(self.first),
+            ncols: Field::NCOLS.number_in(self.first),
+            bands,
+            nbpp: Field::NBPP.number_in(self.third),
+            imode: named_value(Field::IMODE.bytes_in(self.third))?,
+            edges,
+            nppbh: self.effective_nppbh(),
+            nppbv: self.effective_nppbv(),
+            nbpr: Field::NBPR.number_in(self.third),
+            nbpc: Field::NBPC.number_in(self.third),
+        })
+    }
+
+    // All fields; question 24.
+    #[tactic(auto, unfolding(crate::specs::Subheader::q24, common::specs::Tests::every))]
+    fn fields(self, bands: u32, edges: EdgeRule) -> Result<ImageSubheader, Refusal>
+        ensures number { answer_number result
+            ≡ ask 24 (q24 self.entry.first.now self.entry.second.now self.entry.third.now) 0 }
+        ensures same { IfOk result (λ subheader. subheader
+            ≡ fields_in self.entry.first.now self.entry.second.now self.entry.third.now bands edges) }
+    {
+        Ok(ImageSubheader {
+            pvtype: named_value(Field::PVTYPE.bytes_in(self.first))?,
+            irep: Field::IREP.bytes_in(self.first).try_into().unwrap(),
+            icat: Field::ICAT.bytes_in(self.first).try_into().unwrap(),
+            abpp: Field::ABPP.number_in(self.first),
+            pjust: named_value(Field::PJUST.bytes_in(self.first))?,
+            ic: named_value(Field::IC.bytes_in(self.second))?,
+            grid: self.grid(bands, edges)?,
+        })
     }
 }
 
 impl ImageSubheader {
-    // What stands beside a refusal: zeros, and the first value of each enum.
-    fn none() -> Self
-        ensures { result ≡ no_subheader }
-    {
-        Self {
-            pvtype: PixelValueType::UnsignedInt,
-            irep: [0; 8],
-            icat: [0; 8],
-            abpp: 0,
-            pjust: PixelJustification::Right,
-            ic: ImageCompression::NC,
-            grid: Grid {
-                nrows: 0,
-                ncols: 0,
-                bands: 0,
-                nbpp: 0,
-                imode: InterleaveMode::B,
-                edges: EdgeRule::Tight,
-                nppbh: 0,
-                nppbv: 0,
-                nbpr: 0,
-                nbpc: 0,
-            },
-        }
-    }
-
-    fn refused(number: u32) -> ReadSubheader
-        ensures { result ≡ read_as number no_subheader }
-    {
-        ReadSubheader {
-            number,
-            subheader: Self::none(),
-        }
-    }
-
     // Reads the three parts, for a picture of so many bands with an edge rule; the parts hold neither.
     pub fn read(
         first: &[u8],
@@ -207,24 +164,12 @@ impl ImageSubheader {
         third: &[u8],
         bands: u32,
         edges: EdgeRule,
-    ) -> ReadSubheader
-        ensures { result
+    ) -> Result<Self, Refusal>
+        ensures { read_as_of result
             ≡ read_subheader first.now second.now third.now bands edges }
     {
-        if !are_parts(first, second, third) {
-            return Self::refused(23);
-        }
-        if !are_named(first, second, third) {
-            return Self::refused(24);
-        }
-        let subheader = fields_in(first, second, third, bands, edges);
-        let number = subheader.grid.check();
-        if number != 0 {
-            return Self::refused(number);
-        }
-        ReadSubheader {
-            number: 0,
-            subheader,
-        }
+        let subheader = Parts::new(first, second, third)?.fields(bands, edges)?;
+        subheader.grid.check()?;
+        Ok(subheader)
     }
 }

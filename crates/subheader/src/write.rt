@@ -1,5 +1,6 @@
 // Writing the three parts.
 ghost use Rattle.std.specs.Prelude.{◌≡◌, ◌≤◌, length};
+ghost use Rattle.refusals.specs.Refusals.{answer_number};
 ghost use Rattle.fields.specs.Fields.{put_all};
 ghost use Rattle.subheader.specs.Subheader.{q9_write, write_number};
 ghost use Rattle.subheader.specs.Subheader.{first_entries, second_entries, third_entries};
@@ -8,41 +9,37 @@ ghost use Rattle.subheader.specs.Subheader.{parts_out, write_subheader};
 
 use crate::ImageSubheader;
 use fields::Field;
-use fields::named::mode_to_bytes;
+use fields::named::Named;
 use fields::sides::written_side;
+use refusals::Refusal;
 
 // Question 9: do so many bytes hold the parts?
+#[tactic(auto, unfolding(crate::specs::Subheader::q9_write, common::specs::Tests::every))]
 fn parts_hold(first: usize, second: usize, third: usize) -> bool
     ensures { result ≡ q9_write first second third }
 {
-    if first < ImageSubheader::FIRST_BYTES {
-        return false;
-    }
-    if second < ImageSubheader::SECOND_BYTES {
-        return false;
-    }
-    ImageSubheader::THIRD_BYTES <= third
+    ImageSubheader::FIRST_BYTES <= first
+        && ImageSubheader::SECOND_BYTES <= second
+        && ImageSubheader::THIRD_BYTES <= third
 }
 
 impl ImageSubheader {
     // The questions of the writer: 24, 1 to 4, and 9, for so many bytes of each part.
-    fn write_number(self, first: usize, second: usize, third: usize) -> u32
-        ensures { result ≡ write_number self first second third }
+    fn check_write(self, first: usize, second: usize, third: usize) -> Result<(), Refusal>
+        ensures { answer_number result ≡ write_number self first second third }
     {
         if Self::MAX_ABPP < self.abpp {
-            return 24;
+            return Err(Refusal::NamedValue);
         }
-        let number = self.grid.check();
-        if number != 0 {
-            return number;
-        }
+        self.grid.check()?;
         if !parts_hold(first, second, third) {
-            return 9;
+            return Err(Refusal::OutputTooShort);
         }
-        0
+        Ok(())
     }
 
-    // NROWS and NCOLS.
+    // NROWS and NCOLS. The parts are lent slices, whose lengths a type cannot say; so `put_first` and those it calls
+    // ask for 38 bytes.
     fn put_sides(self, part: &mut [u8])
         requires { 38 ≤ length part.old }
         ensures { part.new ≡ put_all part.old (side_entries self) }
@@ -56,13 +53,9 @@ impl ImageSubheader {
         requires { 38 ≤ length part.old }
         ensures { part.new ≡ put_all part.old (kind_entries self) }
     {
-        let value_type = self.pvtype;
-        let pvtype = value_type.to_bytes();
-        let irep = self.irep;
-        let icat = self.icat;
-        Field::PVTYPE.put_text(part, &pvtype);
-        Field::IREP.put_text(part, &irep);
-        Field::ICAT.put_text(part, &icat);
+        Field::PVTYPE.put_text(part, &self.pvtype.to_bytes());
+        Field::IREP.put_text(part, &self.irep);
+        Field::ICAT.put_text(part, &self.icat);
     }
 
     // ABPP and PJUST.
@@ -70,10 +63,8 @@ impl ImageSubheader {
         requires { 38 ≤ length part.old }
         ensures { part.new ≡ put_all part.old (used_bits_entries self) }
     {
-        let justification = self.pjust;
-        let pjust = justification.to_bytes();
         Field::ABPP.put_number(part, self.abpp);
-        Field::PJUST.put_text(part, &pjust);
+        Field::PJUST.put_text(part, &self.pjust.to_bytes());
     }
 
     // NROWS to PJUST.
@@ -91,9 +82,7 @@ impl ImageSubheader {
         requires { 2 ≤ length part.old }
         ensures { part.new ≡ put_all part.old (second_entries self) }
     {
-        let compression = self.ic;
-        let ic = compression.to_bytes();
-        Field::IC.put_text(part, &ic);
+        Field::IC.put_text(part, &self.ic.to_bytes());
     }
 
     // IMODE to NBPP.
@@ -102,9 +91,7 @@ impl ImageSubheader {
         ensures { part.new ≡ put_all part.old (third_entries self) }
     {
         let grid = self.grid;
-        let mode = grid.imode;
-        let imode = mode_to_bytes(mode);
-        Field::IMODE.put_text(part, &imode);
+        Field::IMODE.put_text(part, &grid.imode.to_bytes());
         Field::NBPR.put_number(part, grid.nbpr);
         Field::NBPC.put_number(part, grid.nbpc);
         Field::NPPBH.put_number(part, written_side(grid.nppbh));
@@ -112,18 +99,15 @@ impl ImageSubheader {
         Field::NBPP.put_number(part, grid.nbpp);
     }
 
-    // Writes each part at the front of its output, and answers the number.
-    pub fn write(self, first: &mut [u8], second: &mut [u8], third: &mut [u8]) -> u32
-        ensures { parts_out result first.new second.new third.new
+    // Writes each part at the front of its output.
+    pub fn write(self, first: &mut [u8], second: &mut [u8], third: &mut [u8]) -> Result<(), Refusal>
+        ensures { parts_out (answer_number result) first.new second.new third.new
             ≡ write_subheader self first.old second.old third.old }
     {
-        let number = self.write_number(first.len(), second.len(), third.len());
-        if number != 0 {
-            return number;
-        }
+        self.check_write(first.len(), second.len(), third.len())?;
         self.put_first(first);
         self.put_second(second);
         self.put_third(third);
-        0
+        Ok(())
     }
 }

@@ -2,156 +2,169 @@
 // the numbers that the reader answers. tools/expected_subheader.py made stdout.
 #![tactic(auto)]
 
-ghost use Rattle.std.specs.Prelude.{◌<◌};
+ghost use Rattle.std.specs.Prelude.{◌+◌, ◌<◌, ◌≤◌};
 
-mod print;
-
-use crate::print::{Run, print_end, print_number, print_run, print_text, with_value};
 use grid::EdgeRule;
+use refusals::answer_number;
+use std::{fmt, io};
 use subheader::ImageSubheader;
 
-// Where the second and the third part start in a set. After the third stands a byte that ends one that is too long.
+// The three parts one after the other, the bands, and a byte more for a third part that is too long.
+#[derive(Clone, Copy)]
+struct Set {
+    bytes: [u8; 60],
+    bands: u32,
+}
+
+// Where the second and the third part start in a set.
 const SECOND: usize = 38;
 
 const THIRD: usize = 40;
 
-// So many bytes of a set; none where it has not so many.
-fn part(set: &[u8], at: usize, size: usize) -> &[u8]
-    requires { (at < 1000) × (size < 1000) }
-{
-    let end = at + size;
-    if set.len() < end {
-        return &set[0..0];
-    }
-    &set[at..end]
+// Values that the reader answers with the same number, which is printed.
+#[derive(Clone, Copy)]
+struct Run {
+    from: u8,
+    to: u8,
+    number: u32,
 }
 
-// What the reader answers for parts of these lengths.
-fn answer(set: &[u8], first: usize, second: usize, third: usize, bands: u32) -> u32
-    requires { (first < 1000) × (second < 1000) × (third < 1000) }
-{
-    ImageSubheader::read(
-        part(set, 0, first),
-        part(set, SECOND, second),
-        part(set, THIRD, third),
-        bands,
-        EdgeRule::Tight,
-    )
-    .number
-}
-
-// The same for the parts as they are.
-fn whole_answer(set: &[u8; 60], bands: u32) -> u32 {
-    answer(
-        set,
-        ImageSubheader::FIRST_BYTES,
-        ImageSubheader::SECOND_BYTES,
-        ImageSubheader::THIRD_BYTES,
-        bands,
-    )
-}
-
-// The same with another byte at a place.
-fn changed_answer(set: [u8; 60], place: usize, value: u32, bands: u32) -> u32 {
-    let mut bytes = set;
-    if place < 60 {
-        bytes[place] = (value % 256) as u8;
-    }
-    whole_answer(&bytes, bands)
-}
-
-// The answers of all values at a place, each run of equal ones once.
-fn print_place(set: [u8; 60], place: usize, bands: u32) {
-    let mut run = Run {
-        from: 0,
-        number: changed_answer(set, place, 0, bands),
-    };
-    for value in 1..256 {
-        run = with_value(run, value, changed_answer(set, place, value, bands));
-    }
-    print_run(run, 255);
-    print_end();
-}
-
-// A line for byte i of part k, which starts at `at`.
-fn print_byte(set: [u8; 60], k: u32, at: usize, i: usize, bands: u32)
-    requires { (at < 1000) × (i < 1000) }
-{
-    print_number(k as u64);
-    print_text(b" ");
-    print_number(i as u64);
-    print_text(b":");
-    print_place(set, at + i, bands);
-}
-
-// A line for each byte of a part.
-fn print_part(set: [u8; 60], k: u32, at: usize, size: usize, bands: u32)
-    requires { (at < 1000) × (size < 1000) }
-{
-    for i in 0..size {
-        print_byte(set, k, at, i, bands);
+impl fmt::Display for Run {
+    fn fmt<W: fmt::Write>(&self, f: &mut fmt::Formatter<W>) -> fmt::Result {
+        write!(f, "{}", self.from)?;
+        if self.from != self.to {
+            write!(f, "-{}", self.to)?;
+        }
+        write!(f, " {}", self.number)
     }
 }
 
-// A line for a part of another length.
-fn print_length(k: u32, size: usize, number: u32) {
-    print_number(k as u64);
-    print_text(b" of ");
-    print_number(size as u64);
-    print_text(b" bytes: ");
-    print_number(number as u64);
-    print_end();
+impl Set {
+    fn of(parts: &str, bands: u32) -> Set {
+        let mut bytes = [b'0'; 60];
+        for (byte, letter) in bytes.iter_mut().zip(parts.bytes()) {
+            *byte = letter;
+        }
+        Set { bytes, bands }
+    }
+
+    // What the reader answers for parts of these lengths.
+    fn answer_cut(self, first: usize, second: usize, third: usize) -> u32
+        requires { (first ≤ 60) × (second ≤ 22) × (third ≤ 20) }
+    {
+        answer_number(&ImageSubheader::read(
+            &self.bytes[..first],
+            &self.bytes[SECOND..SECOND + second],
+            &self.bytes[THIRD..THIRD + third],
+            self.bands,
+            EdgeRule::Tight,
+        ))
+    }
+
+    // The same for the parts as they are.
+    fn answer(self) -> u32 {
+        self.answer_cut(
+            ImageSubheader::FIRST_BYTES,
+            ImageSubheader::SECOND_BYTES,
+            ImageSubheader::THIRD_BYTES,
+        )
+    }
+
+    // The same with another byte at a place.
+    fn answer_with(mut self, place: usize, value: u8) -> u32
+        requires { place < 60 }
+    {
+        self.bytes[place] = value;
+        self.answer()
+    }
+
+    // The answers of all values at a place, each run of equal ones once.
+    fn print_place(self, rt: &impl Print, place: usize) -> io::Result<()>
+        requires { place < 60 }
+    {
+        let mut run = Run {
+            from: 0,
+            to: 0,
+            number: self.answer_with(place, 0),
+        };
+        for value in 1..=255 {
+            let number = self.answer_with(place, value);
+            if number != run.number {
+                print!(rt; " {run},")?;
+                run = Run {
+                    from: value,
+                    to: value,
+                    number,
+                };
+            }
+            run.to = value;
+        }
+        println!(rt; " {run}")
+    }
+
+    // A line for each byte of part k, which starts at `at`.
+    fn print_part(self, rt: &impl Print, k: u32, at: usize, size: usize) -> io::Result<()>
+        requires { at + size ≤ 60 }
+    {
+        for i in 0..size {
+            print!(rt; "{k} {i}:")?;
+            self.print_place(rt, at + i)?;
+        }
+        Ok(())
+    }
+
+    // Parts that are one byte too short or too long.
+    fn print_lengths(self, rt: &impl Print) -> io::Result<()> {
+        println!(rt; "1 of 37 bytes: {}", self.answer_cut(37, 2, 19))?;
+        println!(rt; "1 of 39 bytes: {}", self.answer_cut(39, 2, 19))?;
+        println!(rt; "2 of 1 bytes: {}", self.answer_cut(38, 1, 19))?;
+        println!(rt; "2 of 3 bytes: {}", self.answer_cut(38, 3, 19))?;
+        println!(rt; "3 of 18 bytes: {}", self.answer_cut(38, 2, 18))?;
+        println!(rt; "3 of 20 bytes: {}", self.answer_cut(38, 2, 20))
+    }
 }
 
-// Parts that are one byte too short or too long.
-fn print_lengths(set: &[u8], bands: u32) {
-    print_length(1, 37, answer(set, 37, 2, 19, bands));
-    print_length(1, 39, answer(set, 39, 2, 19, bands));
-    print_length(2, 1, answer(set, 38, 1, 19, bands));
-    print_length(2, 3, answer(set, 38, 3, 19, bands));
-    print_length(3, 18, answer(set, 38, 2, 18, bands));
-    print_length(3, 20, answer(set, 38, 2, 20, bands));
-}
-
-// A set: the three parts one after the other, the bands and the answer, then those of the changed parts.
-fn print_set(set: [u8; 60], bands: u32) {
-    print_text(part(&set, 0, 59));
-    print_text(b" ");
-    print_number(bands as u64);
-    print_text(b": ");
-    print_number(whole_answer(&set, bands) as u64);
-    print_end();
-    print_part(set, 1, 0, ImageSubheader::FIRST_BYTES, bands);
-    print_part(set, 2, SECOND, ImageSubheader::SECOND_BYTES, bands);
-    print_part(set, 3, THIRD, ImageSubheader::THIRD_BYTES, bands);
-    print_lengths(&set, bands);
+// The parts, the bands and the answer, then those of the changed parts.
+fn print_set(rt: &impl Print, parts: &str, bands: u32) -> io::Result<()> {
+    let set = Set::of(parts, bands);
+    println!(rt; "{parts} {bands}: {}", set.answer())?;
+    set.print_part(rt, 1, 0, ImageSubheader::FIRST_BYTES)?;
+    set.print_part(rt, 2, SECOND, ImageSubheader::SECOND_BYTES)?;
+    set.print_part(rt, 3, THIRD, ImageSubheader::THIRD_BYTES)?;
+    set.print_lengths(rt)
 }
 
 // Blocks of 4 rows and 8 columns; one block with both sides zero; a zero with two blocks across; a side above 8,192 in
 // digits; an image of 4,294,967,294 bytes; a PVTYPE that is none, and no rows.
-fn main() {
-    print_set(
-        *b"0000001300000019INTMONO    VIS     08RNCB0003000400080004080",
-        2,
-    );
-    print_set(
-        *b"0000820000009000SI MONO    SAR     11LNMS0001000100000000160",
-        3,
-    );
-    print_set(
-        *b"0000010000000200R  NODISPLYMS      32RNCP0002000100000100320",
-        1,
-    );
-    print_set(
-        *b"0000000100009999B  MONO    VIS     01RNMR0001000199990001010",
-        99_999,
-    );
-    print_set(
-        *b"0013107500262138C  MONO    IR      00LNCP0001000100000000010",
-        1,
-    );
-    print_set(
-        *b"0000000000000007 R MONO    VIS     32RNCS0001000100070001320",
-        4,
-    );
+fn main(rt: HostRuntime) -> io::Result<()> {
+    let sets = [
+        (
+            "0000001300000019INTMONO    VIS     08RNCB000300040008000408",
+            2,
+        ),
+        (
+            "0000820000009000SI MONO    SAR     11LNMS000100010000000016",
+            3,
+        ),
+        (
+            "0000010000000200R  NODISPLYMS      32RNCP000200010000010032",
+            1,
+        ),
+        (
+            "0000000100009999B  MONO    VIS     01RNMR000100019999000101",
+            99_999,
+        ),
+        (
+            "0013107500262138C  MONO    IR      00LNCP000100010000000001",
+            1,
+        ),
+        (
+            "0000000000000007 R MONO    VIS     32RNCS000100010007000132",
+            4,
+        ),
+    ];
+    for (parts, bands) in sets {
+        print_set(&rt, parts, bands)?;
+    }
+    Ok(())
 }

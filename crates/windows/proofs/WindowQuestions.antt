@@ -1,7 +1,7 @@
 -- Laws of a window's questions as the code asks them.
 -- Assumes nothing.
 use Prim.Native.Nat.{ℕ, ◌+◌, ◌-◌, ◌*◌, ◌/◌, ◌^◌, ◌≤◌, ◌<◌}
-use mathlib.Core.Path.{◌≡◌, refl}
+use mathlib.Core.Path.{◌≡◌, refl, sym}
 use mathlib.Core.Bool.{Bool, true, false}
 use mathlib.Core.List.{[], ◌∷◌}
 use native.Mathlib.Omega.{arith}
@@ -50,6 +50,10 @@ pub q10-sides : (g : Grid) (w : Window)
     → q10 g w ≡ every (inside w.row w.rows g.nrows ∷ inside w.column w.columns g.ncols ∷ [])
 unfolding q10 inside
 q10-sides g w = two_and_two _ _ _ _
+
+pub q10-yes : (g : Grid) (w : Window) → true ≡ inside w.row w.rows g.nrows → true ≡ inside w.column w.columns g.ncols → q10 g w ≡ true
+unfolding every
+q10-yes g w r c = rw (q10-sides g w, sym r, sym c) refl
 
 -- ---- question 7
 

@@ -11,20 +11,15 @@ pub struct Cut {
 }
 
 // Of `length` places from `start` on, those in part i of parts of `side`.
+#[tactic(auto, unfolding(crate::specs::Internal::Windows::cut_of))]
 pub fn cut_of(start: usize, length: usize, side: usize, i: usize) -> Cut
     requires { (start + length < 2 ^ 64) × (i * side < start + length) × (start < (i + 1) * side)
         × ((i + 1) * side < 2 ^ 64) }
     ensures { result ≡ cut_of start length side i }
 {
     let first = i * side;
-    let mut top = first;
-    if first < start {
-        top = start;
-    }
-    let mut end = (i + 1) * side;
-    if start + length < end {
-        end = start + length;
-    }
+    let top = start.max(first);
+    let end = (start + length).min(first + side);
     Cut {
         from: top - first,
         count: end - top,

@@ -1,2 +1,3 @@
 -- The laws of `writing`.
 pub mod Stores
+pub mod Shapes

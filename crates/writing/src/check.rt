@@ -1,89 +1,85 @@
-// The questions of the calls that write.
-ghost use Rattle.std.specs.Prelude.{◌≡◌, length};
+// The questions of the calls that write. The parameters are the Rust's, by a rule of the project.
+ghost use Rattle.std.specs.Prelude.{◌≡◌, length, IfOk};
+ghost use Rattle.refusals.specs.Refusals.{answer_number};
+ghost use Rattle.grid.specs.Internal.Blocks.{IsBlock};
 ghost use Rattle.calls.specs.Orders.{start_number, skip_number, progress_number, q26, write_number};
 
+use calls::Extent;
 use fits::all_fit;
-use grid::Grid;
+use grid::{AcceptedGrid, Grid, GridBlock};
+use refusals::Refusal;
 
 // Questions 1 to 4 and 12, for so many mark words.
-pub fn marks_number(grid: Grid, words: usize) -> u32
-    ensures { result ≡ progress_number grid words }
+pub fn check_marks(grid: Grid, words: usize) -> Result<AcceptedGrid, Refusal>
+    ensures number { answer_number result ≡ progress_number grid words }
+    ensures same { IfOk result (λ a. a.grid ≡ grid) }
 {
-    let number = grid.check();
-    if number != 0 {
-        return number;
-    }
+    let grid = grid.check()?;
     if !marks::has_words(words, grid.blocks()) {
-        return 12;
+        return Err(Refusal::MarksTooShort);
     }
-    0
+    Ok(grid)
 }
 
 // Questions 1 to 4, 11 and 12, for an image of so many bytes and so many mark words.
-pub fn buffers_number(grid: Grid, image: usize, words: usize) -> u32
-    ensures { result ≡ start_number grid image words }
+pub fn check_buffers(grid: Grid, image: usize, words: usize) -> Result<AcceptedGrid, Refusal>
+    ensures number { answer_number result ≡ start_number grid image words }
+    ensures same { IfOk result (λ a. a.grid ≡ grid) }
 {
-    let number = grid.check();
-    if number != 0 {
-        return number;
-    }
+    let grid = grid.check()?;
     if !grid.fits_in(image) {
-        return 11;
+        return Err(Refusal::ImageTooShort);
     }
     if !marks::has_words(words, grid.blocks()) {
-        return 12;
+        return Err(Refusal::MarksTooShort);
     }
-    0
+    Ok(grid)
 }
 
 // The same, then question 6.
-pub fn block_number(grid: Grid, image: usize, words: usize, block_row: u32, block_col: u32) -> u32
-    ensures { result ≡ skip_number grid image words block_row block_col }
-{
-    let number = buffers_number(grid, image, words);
-    if number != 0 {
-        return number;
-    }
-    if !grid.has_block(block_row, block_col) {
-        return 6;
-    }
-    0
-}
-
-// The same, then questions 13, 14 and 26.
-pub fn write_number(
+pub fn check_block(
     grid: Grid,
     image: usize,
     words: usize,
     block_row: u32,
     block_col: u32,
-    bands: usize,
-    rows: usize,
-    columns: usize,
-    data: &[u8],
-) -> u32
-    ensures { result ≡ write_number grid image words block_row block_col bands rows columns
-        (length «data».now) (q26 grid «data».now) }
+) -> Result<GridBlock, Refusal>
+    ensures number { answer_number result ≡ skip_number grid image words block_row block_col }
+    ensures block { IfOk result (IsBlock grid block_row block_col) }
 {
-    let number = block_number(grid, image, words, block_row, block_col);
-    if number != 0 {
-        return number;
+    let grid = check_buffers(grid, image, words)?;
+    grid.block(block_row, block_col)
+}
+
+// The same, then questions 13, 14 and 26.
+pub fn check_write(
+    grid: Grid,
+    image: usize,
+    words: usize,
+    block_row: u32,
+    block_col: u32,
+    shape: Extent,
+    data: &[u8],
+) -> Result<GridBlock, Refusal>
+    ensures number { answer_number result ≡ write_number grid image words block_row block_col
+        shape.bands shape.rows shape.columns (length «data».now) (q26 grid «data».now) }
+    ensures block { IfOk result (IsBlock grid block_row block_col) }
+{
+    let block = check_block(grid, image, words, block_row, block_col)?;
+    let extent = Extent {
+        bands: grid.bands as usize,
+        rows: block.rows(),
+        columns: block.columns(),
+    };
+    if shape != extent {
+        return Err(Refusal::OtherShape);
     }
-    if bands != grid.bands as usize {
-        return 13;
-    }
-    if rows != grid.actual_rows(block_row as usize) {
-        return 13;
-    }
-    if columns != grid.actual_columns(block_col as usize) {
-        return 13;
-    }
-    let size = grid.sample_bytes();
-    if data.len() != bands * rows * columns * size {
-        return 14;
+    let size = block.grid.sample_bytes();
+    if data.len() != shape.bands * shape.rows * shape.columns * size {
+        return Err(Refusal::DataLength);
     }
     if !all_fit(data, size, grid.nbpp as usize) {
-        return 26;
+        return Err(Refusal::SampleBits);
     }
-    0
+    Ok(block)
 }

@@ -43,10 +43,6 @@ pub record InSpan (s : Span) (x : ℕ) : Type 0 where
 
 -- ---- areas and pieces
 
-abbrev pub order_of : Way → (bands b rows r columns c : ℕ) → Order
-order_of way bands b rows r columns c =
-    record { way = way; bands = cut_into bands b; rows = cut_into rows r; columns = cut_into columns c }
-
 abbrev pub area_count : Order → ℕ
 area_count o = o.rows.parts * o.columns.parts
 
@@ -77,13 +73,6 @@ pub record InArea (a : Area) (b r c : ℕ) : Type 0 where
 -- part p of the bands, of an area
 abbrev pub piece_of : Order → Area → ℕ → Piece
 piece_of o a p = record { bands = part_of o.bands p; rows = a.rows; columns = a.columns }
-
--- one band of an area, and its first n bands
-abbrev pub band_of : Area → ℕ → Piece
-band_of a k = record { bands = record { from = k; count = 1 }; rows = a.rows; columns = a.columns }
-
-abbrev pub bands_of_area : Area → ℕ → Piece
-bands_of_area a n = record { bands = record { from = 0; count = n }; rows = a.rows; columns = a.columns }
 
 pub record RightCuts (o : Order) : Type 0 where
   pub bands-cut : RightCut o.bands

@@ -48,6 +48,10 @@ abbrev pub part_read : BlockLayout → List ℕ → Part → Bands → ℕ → �
 part_read l src p bs rows columns out =
     patched (sample_bytes l) (part_sample l src p bs rows columns) (in_part p (band_count l.bands bs) rows columns) out
 
+-- the bytes of an answer of so many rows and columns for each band asked for
+abbrev pub answer_bytes : BlockLayout → Bands → (rows columns : ℕ) → ℕ
+answer_bytes l bs rows columns = band_count l.bands bs * rows * columns * sample_bytes l
+
 -- a part that can be read: samples of a block that the source reaches, bands of the block, and room
 pub record Readable (l : BlockLayout) (n : ℕ) (p : Part) (bs : Bands) (rows columns m : ℕ) : Type 0 where
   pub accepted : Sound l
@@ -59,7 +63,7 @@ pub record Readable (l : BlockLayout) (n : ℕ) (p : Part) (bs : Bands) (rows co
   pub to_rows : p.to_row + p.rows ≤ rows
   pub to_columns : p.to_column + p.columns ≤ columns
   pub bands_in : q8 l.bands bs ≡ true
-  pub room : band_count l.bands bs * rows * columns * sample_bytes l ≤ m
+  pub room : answer_bytes l bs rows columns ≤ m
 
 -- the part that is a whole block
 abbrev pub whole_part : (rows columns : ℕ) → Part

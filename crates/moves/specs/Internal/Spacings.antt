@@ -2,12 +2,11 @@
 -- Assumes nothing.
 use Rattle.std.specs.Prelude.{ℕ, ◌+◌, ◌*◌, ◌^◌, ◌<◌}
 use Rattle.layout.specs.declared.BlockLayout.{BlockLayout}
-use Rattle.layout.specs.Internal.Layout.{sample_bytes, place}
+use Rattle.layout.specs.Internal.Layout.{place}
 use Rattle.layout.specs.Internal.Spacing.{band_stride, row_stride, column_stride}
 use Rattle.moves.specs.declared.order.Piece.{Piece}
 use Rattle.moves.specs.declared.part.Part.{Part}
 use Rattle.moves.specs.declared.spacing.Spacing.{Spacing}
-use Rattle.moves.specs.declared.spacing.Sides.{Sides}
 
 abbrev pub spaced_at : Spacing → ℕ → ℕ → ℕ → ℕ
 spaced_at s b r c = s.first + b * s.band + r * s.row + c * s.column
@@ -45,13 +44,3 @@ pub record PlanesFit (p : Part) (rows columns s : ℕ) : Type 0 where
   pub samples : rows * columns < 2 ^ 64
   pub band : rows * columns * s < 2 ^ 64
   pub row : columns * s < 2 ^ 64
-
-abbrev pub sides_of : BlockLayout → Part → (rows columns : ℕ) → Sides
-sides_of l p rows columns =
-    record {
-      part = p;
-      rows = rows;
-      columns = columns;
-      image = image_spacing l p;
-      planes = plane_spacing p rows columns (sample_bytes l);
-    }

@@ -53,6 +53,13 @@ pub record Writable (l : BlockLayout) (dat image : List ℕ) : Type 0 where
   pub fits : l.nbpp < 8 * sample_bytes l
       → SamplesFit dat 0 (sample_bytes l) l.nbpp (l.bands * l.rows * l.columns)
 
+-- the same without the bytes: what can be stored, wherever
+pub record Storable (l : BlockLayout) (dat : List ℕ) : Type 0 where
+  pub accepted : Sound l
+  pub data_is : length dat ≡ l.bands * l.rows * l.columns * sample_bytes l
+  pub fits : l.nbpp < 8 * sample_bytes l
+      → SamplesFit dat 0 (sample_bytes l) l.nbpp (l.bands * l.rows * l.columns)
+
 -- ---- on the way
 
 -- the block's samples as they go to the image, bit by bit from the high end

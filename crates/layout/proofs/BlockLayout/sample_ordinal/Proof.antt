@@ -38,8 +38,8 @@ fits m s =
 overflow_cast-bands : tie.Need-overflow_cast-bands
 overflow_cast-bands c = search rules
 
-enum_told-1 : tie.Need-enum_told-1
-enum_told-1 c = search rules
+enum_told_at-1 : tie.Need-enum_told_at-1
+enum_told_at-1 c = search rules
 
 times_plus-requires : tie.Need-times_plus-requires
 times_plus-requires c κs =
@@ -49,8 +49,8 @@ times_plus-requires c κs =
 times_plus-requires-in-P : tie.Need-times_plus-requires-in-P
 times_plus-requires-in-P c κs = rw c.times_plus.ensures (fits P c.before.before.before)
 
-enum_told-in-R : tie.Need-enum_told-in-R
-enum_told-in-R c = search rules
+enum_told_at-in-R : tie.Need-enum_told_at-in-R
+enum_told_at-in-R c = search rules
 
 times_plus-requires-in-R : tie.Need-times_plus-requires-in-R
 times_plus-requires-in-R c κs =
@@ -85,10 +85,10 @@ sample_ordinal_spec =
     tie.close
     (tie.spec
     overflow_cast-bands
-    enum_told-1
+    enum_told_at-1
     times_plus-requires
     times_plus-requires-in-P
-    enum_told-in-R
+    enum_told_at-in-R
     times_plus-requires-in-R
     times_plus-requires-in-R-2
     times_plus-requires-in_default

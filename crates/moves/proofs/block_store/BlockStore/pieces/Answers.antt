@@ -1,0 +1,26 @@
+-- `moves::block_store::BlockStore::pieces` meets its contract: the samples of p parts of the bands are put.
+-- Assumes nothing.
+use Rattle.std.proofs.Common.{arith}
+use Rattle.moves.proofs.Orders.{no-parts, parts-turn, parts-done, piece_starts, piece_inside, piece_way}
+use Rattle.moves.proofs.block_store.BlockStore.pieces.Goals as goal
+
+pub loop-p-init : goal.loop-p-init
+loop-p-init c = no-parts _ c.args.order c.args.area _
+
+pub piece-requires : goal.piece-requires
+piece-requires c = piece_starts c.requires.moves _ c.loop-p-test.true
+
+pub piece-requires-in-loop-p-clause-moves : goal.piece-requires-in-loop-p-clause-moves
+piece-requires-in-loop-p-clause-moves c =
+    let m = c.requires.moves in
+    let h = c.loop-p-test.true in
+    record {
+      inside = piece_inside m _ h c.piece.ensures;
+      way-fits = rw c.requires.way_is at (piece_way m _ h c.piece.ensures);
+    }
+
+pub loop-p-preserved : goal.loop-p-preserved
+loop-p-preserved c = parts-turn _ c.requires.moves _ c.piece.ensures c.loop-p.invariant c.piece-in-loop-p.ensures
+
+pub returns : goal.returns
+returns c = parts-done _ c.requires.moves _ (omega (arith, c.loop-p-test.false)) c.loop-p.invariant

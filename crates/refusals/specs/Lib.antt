@@ -1,0 +1,2 @@
+-- The definitions of `refusals`.
+pub mod Refusals

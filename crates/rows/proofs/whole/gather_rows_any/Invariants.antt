@@ -1,0 +1,11 @@
+-- The loop of `rows::whole::gather_rows_any`: the first i rows are read.
+-- Assumes nothing.
+use Rattle.std.proofs.Common.{◌≡◌}
+use Rattle.rows.specs.Internal.Rows.{whole_rows}
+use Rattle.rows.proofs.whole.gather_rows_any.Given as goal
+
+abbrev pub invariant-loop-i : goal.invariant-loop-i
+invariant-loop-i l =
+    l.out
+    ≡ whole_rows l.src l.rows.first.at l.rows.apart l.rows.first.step l.rows.first.size l.rows.first.count
+    l.rows.first.data_at l.rows.data_apart l.i l.fn.out
