@@ -84,13 +84,16 @@ pub fn first_unmarked(marks: &[u64], across: usize, down: usize) -> Option<(usiz
     requires { (0 < across) × (across ≤ 9999) × (down ≤ 9999) × (down * across ≤ 64 * length marks.now) }
     ensures { result ≡ first_not (marked marks.now) across down }
 {
+    let start = row_to_start(marks, across, down);
     // by number: the row and the column are the answer
-    for row in row_to_start(marks, across, down)..down {
-        for column in 0..across {
-            if !is_marked(marks, row * across + column) {
-                return Some((row, column));
+    'first: {
+        for row in start..down {
+            for column in 0..across {
+                if !is_marked(marks, row * across + column) {
+                    break 'first Some((row, column));
+                }
             }
         }
+        None
     }
-    None
 }

@@ -8,7 +8,7 @@ use Rattle.marks.proofs.first_unmarked.Goals as goal
 
 pub loop-row-init : goal.loop-row-init
 loop-row-init c =
-    let told = c.row_to_start-row.ensures in
+    let told = c.row_to_start-start.ensures in
     (told.0, reaches _ _ _ _ (mul-le-mul_right _ told.0) told.1)
 
 pub returns-then-not-is_marked : goal.returns-then-not-is_marked
@@ -23,7 +23,7 @@ loop-column-preserved c = (
       (passes _ _ _ _ (digits_lt c.loop-row-test.true c.loop-column-test.true) (sym c.if-not-is_marked.ensures) c.loop-column.invariant.1),
 )
 
-pub returns : goal.returns
-returns c =
+pub returns-after-loop-row : goal.returns-after-loop-row
+returns-after-loop-row c =
     let e : c.loop-row.row ≡ c.args.down = omega arith in
     ends _ _ _ (rw e at c.loop-row.invariant.1)
