@@ -120,7 +120,8 @@ impl Grid {
         row < self.nbpc && column < self.nbpr
     }
 
-    // Questions 1 to 4.
+    // Questions 1 to 4. Inlined, since a mask's lookup takes two thirds of the time then.
+    #[inline(always)]
     pub fn check(self) -> Result<AcceptedGrid, Refusal>
         ensures number { answer_number result ≡ grid_number self }
         ensures same { IfOk result (λ a. a.grid ≡ self) }

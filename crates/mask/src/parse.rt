@@ -56,7 +56,9 @@ impl ImageDataMask {
         Self::HEADER_BYTES + code + record_count(grid) * (block + pad)
     }
 
-    // The questions of a table: 1 to 4, 16 to 19. Gives the accepted grid, and the header without the pad code.
+    // The questions of a table: 1 to 4, 16 to 19. Gives the accepted grid, and the header without the pad code. Inlined,
+    // as the grid's questions are.
+    #[inline(always)]
     pub fn check_table(table: &[u8], grid: Grid) -> Result<(AcceptedGrid, Self), Refusal>
         ensures number { answer_number result ≡ parse_number grid table.now }
         ensures header { IfOk result (IsChecked grid table.now) }
