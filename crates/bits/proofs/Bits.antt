@@ -182,6 +182,29 @@ bits_at-is xs p (suc n) v h =
     up : (i : ℕ) → i < n → bit_of v (suc n - suc i) ≡ bit_of (v / 2) (n - suc i)
     up i l = ap (λ (a : ℕ). a % 2) (ap (λ (a : ℕ). v / 2 ^ a) (omega arith) ∙ sym (shr-shr v 1 (n - suc i)))
 
+-- each bit of the number in n bits
+pub bits_at-bit : (xs : List ℕ) (p n i : ℕ) → i < n → bit_of (bits_at xs p n) (n - suc i) ≡ bit_at xs (p + i)
+unfolding bits_at
+bits_at-bit xs p zero i h = absurd (omega arith)
+bits_at-bit xs p (suc n) i h = go (ℕ_discrete i n) (λ l. bits_at-bit xs p n i l)
+  where
+    x : ℕ
+    x = bits_at xs p n * 2 + bit_at xs (p + n)
+
+    go : Dec (i ≡ n) → (i < n → bit_of (bits_at xs p n) (n - suc i) ≡ bit_at xs (p + i))
+        → bit_of x (suc n - suc i) ≡ bit_at xs (p + i)
+    go (yes e) f =
+        let q : suc n - suc i ≡ 0 = omega arith in
+        let z : x / 2 ^ 0 % 2 ≡ x % 2 = omega arith in
+        ap (bit_of x) q ∙ z ∙ digits_mod (bits_at xs p n) (bit_at_lt xs (p + n))
+        ∙ ap (λ (k : ℕ). bit_at xs (p + k)) (sym e)
+    go (no ne) f =
+        let q : suc n - suc i ≡ 1 + (n - suc i) = omega arith in
+        ap (bit_of x) q
+        ∙ ap (λ (y : ℕ). y % 2) (sym (shr-shr x 1 (n - suc i))
+        ∙ ap (λ (y : ℕ). y / 2 ^ (n - suc i)) (digits_div (bits_at xs p n) (bit_at_lt xs (p + n))))
+        ∙ f (omega arith)
+
 -- any bits apart from those put are as they were
 pub put_bits-apart : (xs : List ℕ) (p n v q m : ℕ) → (q + m ≤ p) ⊎ (p + n ≤ q) → bits_at (put_bits xs p n v) q m ≡ bits_at xs q m
 put_bits-apart xs p n v q m h =

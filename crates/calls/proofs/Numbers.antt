@@ -5,16 +5,16 @@ use mathlib.Core.Path.{◌≡◌, refl, sym, ap, ◌∙◌}
 use mathlib.Core.Bool.{Bool, true}
 use native.Mathlib.Decide.{ℕ_discrete}
 use borrow.Author.Tests.{leb-true, eqb-true}
-use lib.Dec.{lit<}
+use lib.Dec.{leb, lit<}
 use Rattle.common.specs.Questions.{ask}
 use Rattle.common.proofs.Questions.{Before, before-inv, ask-before, ask-inv}
 use Rattle.grid.specs.declared.Grid.{Grid}
-use Rattle.grid.specs.Sizes.{sample_bytes, blocks, image_bytes, actual_rows, actual_columns}
+use Rattle.grid.specs.Sizes.{sample_bytes, band_bytes, blocks, image_bytes, actual_rows, actual_columns}
 use Rattle.grid.specs.Check.{Accepted, ask_grid, q6, q11}
 use Rattle.grid.specs.Layout.{Block}
 use Rattle.grid.proofs.Accepted.{accepted_of, grid-inv, grid-before, block_in}
 use Rattle.marks.specs.Marks.{mark_words, q12}
-use Rattle.calls.specs.Orders.{ask_buffers, q13, q14, start_number, write_number, skip_number, progress_number}
+use Rattle.calls.specs.Orders.{ask_buffers, q13, q14, start_number, write_number, skip_number, progress_number, relay_number, q27}
 
 -- n bytes of image and m mark words are enough for an accepted grid
 pub record Enough (g : Grid) (n m : ℕ) : Type 0 where
@@ -53,6 +53,17 @@ skip-facts g n m row column e =
 pub progress-facts : (g : Grid) (m : ℕ) → progress_number g m ≡ 0 → mark_words (blocks g) ≤ m
 unfolding progress_number q12
 progress-facts g m e = leb-true _ _ (ask-inv 12 (q12 (blocks g) m) _ (lit< tt) (grid-inv g _ e).1).0
+
+pub relay-facts : (g : Grid) (n m k : ℕ) → relay_number g n m k ≡ 0 → Enough g n m
+unfolding relay_number
+relay-facts g n m k e = (enough-inv g n m _ e).0
+
+-- the scratch of a re-lay has a block's bytes
+pub relay-room : (g : Grid) (n m k : ℕ) → relay_number g n m k ≡ 0 → g.bands * band_bytes g ≤ k
+unfolding relay_number
+relay-room g n m k e =
+    let tight = ask-inv 27 (q27 g.edges) _ (lit< tt) (enough-inv g n m _ e).1 in
+    leb-true _ _ (ask-inv 9 (leb (g.bands * band_bytes g) k) 0 (lit< tt) tight.1).0
 
 -- ---- questions before others
 

@@ -9,7 +9,7 @@ use Rattle.refusals.specs.declared.Refusal.TheVariants.{BlockOutsideGrid, ImageE
 use Rattle.refusals.specs.declared.Refusal.TheVariants.{WindowOutsidePicture, ImageTooShort, MarksTooShort, OtherShape}
 use Rattle.refusals.specs.declared.Refusal.TheVariants.{DataLength, UnmarkedBlock, TableTooShort, RecordLength}
 use Rattle.refusals.specs.declared.Refusal.TheVariants.{PadCodeLength, TableEnds, PadCode, TableTooLarge, OffsetCount}
-use Rattle.refusals.specs.declared.Refusal.TheVariants.{SubheaderPart, NamedValue, SampleBits, NoMode}
+use Rattle.refusals.specs.declared.Refusal.TheVariants.{SubheaderPart, NamedValue, SampleBits, AlreadyFull, NoMode}
 use Rattle.refusals.specs.Refusals.{number_of}
 use Rattle.grid.specs.declared.Grid.{Grid}
 use Rattle.grid.specs.Check.{ask_grid}
@@ -42,6 +42,7 @@ alone OffsetCount ne = refl
 alone SubheaderPart ne = refl
 alone NamedValue ne = refl
 alone SampleBits ne = refl
+alone AlreadyFull ne = refl
 alone NoMode ne = refl
 alone (UnmarkedBlock row column) ne = absurd (ne refl)
 

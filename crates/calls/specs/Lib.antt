@@ -3,4 +3,5 @@ pub mod Answers
 pub mod Orders
 pub mod Reads
 pub mod Writes
+pub mod Relay
 pub mod Results

@@ -1,14 +1,16 @@
 -- The order in which each call on an image asks its questions. Questions 1 to 4, 6 and 11 stand in grid, 8 and 9 in
 -- layout, 12 in marks.
 -- Assumes nothing.
-use Rattle.std.specs.Prelude.{ℕ, ◌+◌, ◌*◌, ◌/◌, ◌^◌, Bool, not, ◌||◌, List, [], ◌∷◌, ltb, leb, eqb, length}
+use Rattle.std.specs.Prelude.{ℕ, ◌+◌, ◌*◌, ◌/◌, ◌^◌, Bool, true, false, not, ◌||◌, List, [], ◌∷◌, ltb, leb, eqb, length}
 use Rattle.common.specs.Questions.{ask}
 use Rattle.common.specs.Tests.{every, all_below}
 use Rattle.bits.specs.Bits.{be_at}
 use Rattle.layout.specs.Bands.{Bands, band_count, q8, q9}
 use Rattle.grid.specs.declared.Grid.{Grid}
+use Rattle.grid.specs.declared.EdgeRule.{EdgeRule}
+use Rattle.grid.specs.declared.EdgeRule.TheVariants.{Tight, Full}
 use Rattle.grid.specs.Check.{ask_grid, q6, q11}
-use Rattle.grid.specs.Sizes.{sample_bytes, blocks, actual_rows, actual_columns}
+use Rattle.grid.specs.Sizes.{sample_bytes, band_bytes, blocks, actual_rows, actual_columns}
 use Rattle.grid.specs.Layout.{block_end, whole_start, whole_length}
 use Rattle.marks.specs.Marks.{q12}
 
@@ -139,3 +141,13 @@ skip_number g n m row column = ask_grid g (ask_buffers g n m (ask 6 (q6 g row co
 -- progress: 12
 unfoldable pub progress_number : Grid → ℕ → ℕ
 progress_number g m = ask_grid g (ask 12 (q12 (blocks g) m) 0)
+
+-- 27: is the edge rule still tight
+abbrev pub q27 : EdgeRule → Bool
+q27 Tight = true
+q27 Full = false
+
+-- re-lay: 11, 12, 27, and 9 of the scratch, which has k bytes
+unfoldable pub relay_number : Grid → ℕ → ℕ → ℕ → ℕ
+relay_number g n m k =
+    ask_grid g (ask_buffers g n m (ask 27 (q27 g.edges) (ask 9 (leb (g.bands * band_bytes g) k) 0)))

@@ -52,17 +52,21 @@ unfoldable pub data_at : Grid → ℕ → ℕ → List ℕ → ℕ → ℕ → �
 data_at g row column dat b r c =
     be_at dat (((b * actual_rows g row + r) * actual_columns g column + c) * sample_bytes g) (sample_bytes g) % 2 ^ g.nbpp
 
--- the first n samples of row r of band b of the block put at their places
-abbrev pub put_row : Grid → ℕ → ℕ → List ℕ → ℕ → ℕ → ℕ → List ℕ → List ℕ
-put_row g row column dat b r n image =
-    iter n (λ c im. put_bits im (place g row column b r c) g.nbpp (data_at g row column dat b r c)) image
+-- the first n samples of row r of band b of the block put at their places: sample (b, r, c) is number v b r c
+abbrev pub put_row : Grid → ℕ → ℕ → (ℕ → ℕ → ℕ → ℕ) → ℕ → ℕ → ℕ → List ℕ → List ℕ
+put_row g row column v b r n image =
+    iter n (λ c im. put_bits im (place g row column b r c) g.nbpp (v b r c)) image
 
 -- each actual sample of the block put at its place
-unfoldable pub put_block : Grid → ℕ → ℕ → List ℕ → List ℕ → List ℕ
-put_block g row column dat image =
+unfoldable pub put_samples : Grid → ℕ → ℕ → (ℕ → ℕ → ℕ → ℕ) → List ℕ → List ℕ
+put_samples g row column v image =
     iter (actual_rows g row)
-    (λ r im. iter g.bands (λ b im. put_row g row column dat b r (actual_columns g column) im) im)
+    (λ r im. iter g.bands (λ b im. put_row g row column v b r (actual_columns g column) im) im)
     image
+
+-- the samples of the data put
+abbrev pub put_block : Grid → ℕ → ℕ → List ℕ → List ℕ → List ℕ
+put_block g row column dat image = put_samples g row column (data_at g row column dat) image
 
 -- the t bytes of each run of the block cleared
 unfoldable pub clear_runs : Grid → ℕ → ℕ → List ℕ → List ℕ

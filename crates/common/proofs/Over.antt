@@ -103,3 +103,8 @@ module _ {A : Type 0} where
   pub front_filled : (d : List A) (n : ℕ) (v : A) {ws : List A} → n ≤ length d → ws ≡ replicate (length (take n d)) v → ws ++ drop n d ≡ over d 0 (replicate n v)
   unfolding over
   front_filled d n v h e = rw (e, length-take-le n d h, zero-add, length-replicate {A = A} n v)
+
+  -- a front put in place of those of two lists that go on alike
+  pub front-same : (d e : List A) (n : ℕ) (v : A) → drop n d ≡ drop n e → over d 0 (replicate n v) ≡ over e 0 (replicate n v)
+  unfolding over
+  front-same d e n v h = rw (zero-add, length-replicate {A = A} n v, h)

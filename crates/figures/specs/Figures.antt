@@ -1,4 +1,4 @@
--- Document 01's figures to hold it against, k's last sample as document 02 has it, and m under both of its edge rules:
+-- Document 01's figures to hold it against, k's last sample as document 02 has it, and m under both of its edge rules and laid anew:
 -- what the definitions give, beside what the papers say.
 -- Assumes nothing.
 use Rattle.std.specs.Prelude.{ℕ, suc, ◌-◌, ◌*◌, ◌/◌, ◌%◌, ◌^◌, true, false, List, [], ◌∷◌, ◌++◌, take, drop, replicate}
@@ -20,6 +20,7 @@ use Rattle.calls.specs.Orders.{Window}
 use Rattle.calls.specs.Writes.{start, write, progress, finish}
 use Rattle.mask.specs.Mask.{WrittenOut, marks_mask, to_bytes}
 use Rattle.figures.specs.Instance.{by_calls, by_plain_frame, by_hand}
+use Rattle.figures.specs.Relays.{edge, written_m, relaid_m, image_after, by_calls_m, by_plain_frame_m, by_hand_m, relay_of}
 
 -- the figures' letters; `no-letter` has the largest sample of 12 bits, and the list of calls that is told by the calls
 -- and by the plain frame
@@ -55,10 +56,6 @@ listed list = bands_of false list
 -- one row of n columns, one band, one block
 abbrev pub line : ℕ → ℕ → Grid
 line nbpp n = grid_of 1 n 1 nbpp B Tight n 1
-
--- picture 2 by 3, blocks 2 by 2, NBPP 4, under an edge rule
-abbrev pub edge : EdgeRule → Grid
-edge rule = grid_of 2 3 1 4 B rule 2 2
 
 -- samples vs, from number n on, row by row, put at the places of a block of one band
 unfoldable pub laid : Grid → ℕ → ℕ → ℕ → List ℕ → List ℕ → List ℕ
@@ -132,6 +129,43 @@ list_of_calls rule =
     ∷ record { letter = no-letter; found = by_plain_frame rule; paper = by_hand }
     ∷ []
 
+-- figure m laid anew in a list of calls; and images whose other bits are ones in part: in P the samples of the lower
+-- block move from run to run, in R its rows become as long as the nominal ones, at a byte multiple no byte changes, and
+-- under full nothing does
+unfoldable pub relays : List Figure
+relays =
+    record { letter = fig-m; found = image_after written_m; paper = 0 ∷ 0 ∷ 0 ∷ 0x59 ∷ 0x00 ∷ 255 ∷ [] }
+    ∷ record {
+      letter = fig-m;
+      found = image_after relaid_m;
+      paper = 0 ∷ 9 ∷ 0 ∷ 27 ∷ 0 ∷ 0 ∷ 0x50 ∷ 0x90 ∷ 255 ∷ [];
+    }
+    ∷ record { letter = no-letter; found = by_calls_m; paper = by_hand_m }
+    ∷ record { letter = no-letter; found = by_plain_frame_m; paper = by_hand_m }
+    ∷ record {
+      letter = no-letter;
+      found = relay_of (grid_of 3 2 2 4 P Tight 2 2)
+          (0x12 ∷ 0x34 ∷ 0x56 ∷ 0x78 ∷ 0xAB ∷ 0xEE ∷ 0xCD ∷ 0xEE ∷ 0xEE ∷ []) 5;
+      paper = 0 ∷ 0x12 ∷ 0x34 ∷ 0x56 ∷ 0x78 ∷ 0xAB ∷ 0xCD ∷ 0x00 ∷ 0x00 ∷ 0xEE ∷ 0 ∷ 0 ∷ 0 ∷ 0 ∷ 7 ∷ [];
+    }
+    ∷ record {
+      letter = no-letter;
+      found = relay_of (grid_of 2 3 2 4 R Tight 2 2)
+          (0x12 ∷ 0x34 ∷ 0x56 ∷ 0x78 ∷ 0xAB ∷ 0xEE ∷ 0xCD ∷ 0xEE ∷ []) 4;
+      paper = 0 ∷ 0x12 ∷ 0x34 ∷ 0x56 ∷ 0x78 ∷ 0xA0 ∷ 0xB0 ∷ 0xC0 ∷ 0xD0 ∷ 0 ∷ 0 ∷ 0 ∷ 0 ∷ [];
+    }
+    ∷ record {
+      letter = no-letter;
+      found = relay_of (grid_of 3 2 2 8 P Tight 2 2) (replicate 17 0xEE) 9;
+      paper = 0 ∷ (replicate 17 0xEE ++ (replicate 8 0 ++ (7 ∷ [])));
+    }
+    ∷ record {
+      letter = no-letter;
+      found = relay_of (grid_of 3 2 2 4 P Full 2 2) (replicate 9 0xEE) 5;
+      paper = 27 ∷ (replicate 9 0xEE ++ replicate 5 7);
+    }
+    ∷ []
+
 unfoldable pub figures : List Figure
 figures =
     record { letter = fig-a; found = corner B; paper = 48 ∷ 56 ∷ [] }
@@ -193,4 +227,4 @@ figures =
           0 ∷ 0x00 ∷ 0x00 ∷ 0x00 ∷ 0x12 ∷ 0x00 ∷ 0x04 ∷ 0x00 ∷ 0x00 ∷ 0x00 ∷ 0x00
           ∷ 0x00 ∷ 0x00 ∷ 0x00 ∷ 0x00 ∷ 0xFF ∷ 0xFF ∷ 0xFF ∷ 0xFF ∷ [];
     }
-    ∷ (list_of_calls Tight ++ list_of_calls Full)))
+    ∷ (list_of_calls Tight ++ (list_of_calls Full ++ relays))))

@@ -1,4 +1,5 @@
 -- The figures of document 01.
 pub mod Instance
+pub mod Relays
 pub mod Figures
 pub mod Subheaders

@@ -65,7 +65,7 @@ unfolding mark
 mark-below n ms i s =
     set_below 64 n ms (i / 64) _ s (λ l. with_bit-below 64 _ (i % 64) 1 (s _ l) (omega arith) (omega arith))
 
-put-below : (n : ℕ) (xs : List ℕ) (p w v : ℕ) → Below 8 n xs → Below 8 n (put_bits xs p w v)
+pub put-below : (n : ℕ) (xs : List ℕ) (p w v : ℕ) → Below 8 n xs → Below 8 n (put_bits xs p w v)
 unfolding put_bits set_bit
 put-below n xs p zero v s = s
 put-below n xs p (suc w) v s =

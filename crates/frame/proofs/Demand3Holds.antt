@@ -2,20 +2,25 @@
 -- Assumes nothing.
 use Prim.Native.Nat.{ℕ, min, ◌*◌}
 use mathlib.Core.Path.{◌≡◌, sym, ap, ◌∙◌, subst, subst₂}
+use mathlib.Core.Bool.{Bool, true, false}
 use mathlib.Core.List.{List}
 use native.Mathlib.Omega.{arith}
 use lib.ListN.{length, take, length-take}
+use Rattle.common.specs.Tests.{pick}
+use Rattle.grid.specs.declared.EdgeRule.TheVariants.{Full}
 use Rattle.grid.specs.declared.Grid.{Grid}
 use Rattle.grid.specs.Check.{Accepted}
 use Rattle.grid.specs.Sizes.{sample_bytes}
+use Rattle.grid.specs.EdgeRules.{under_full}
 use Rattle.grid.proofs.Accepted.{facts}
 use Rattle.grid.proofs.SamplePlaces.{inside}
+use Rattle.grid.proofs.Runs.{bytes_rule, accepted_rule}
 use Rattle.layout.specs.Bands.{band_count}
 use Rattle.calls.specs.Orders.{Window}
 use Rattle.calls.specs.Reads.{window, window_of}
 use Rattle.calls.proofs.Numbers.{Enough, start-facts}
 use Rattle.frame.specs.Call.{Call}
-use Rattle.frame.specs.Calls.{Start, Accepts, started, after, in_force}
+use Rattle.frame.specs.Calls.{Start, Accepts, started, after, in_force, is_relaid}
 use Rattle.frame.specs.PlainFrame.{Frame, frame0, frame_window}
 use Rattle.frame.specs.Demand3.{plain, Alike, Demand3}
 use Rattle.frame.proofs.PlainBytes.{window-by}
@@ -23,10 +28,21 @@ use Rattle.frame.proofs.ListOfCalls.{CalledOk, calls_ok, start_ok}
 use Rattle.frame.proofs.WindowNumbers.{window-facts, window-is, alike}
 
 pub ran : (s : Start) (cs : List Call) → Accepts s
-    → CalledOk s.grid s.image s.marks (after s cs) (plain s cs)
+    → CalledOk s.grid s.image s.marks (is_relaid s cs) (after s cs) (plain s cs)
 ran s cs e =
-    calls_ok s.grid s.image s.marks cs (started s)
+    calls_ok s.grid s.image s.marks cs false (started s)
     (frame0 s.grid (length s.image) (length s.marks)) (start_ok s e)
+
+-- what is enough for a grid is enough for it under full
+enough_full : (g : Grid) (n m : ℕ) (full : Bool) → Enough g n m → Enough (pick full (under_full g) g) n m
+unfolding pick
+enough_full g n m true a =
+    record {
+      accepted = accepted_rule Full g a.accepted;
+      bytes = omega (arith, bytes_rule Full g, a.bytes);
+      words = a.words;
+    }
+enough_full g n m false a = a
 
 -- the grid in force is accepted, and the buffers are long enough for it
 pub enough : (s : Start) (cs : List Call) → Accepts s
@@ -36,11 +52,12 @@ enough s cs e =
     let a = start-facts s.grid _ _ e in
     subst₂ (Enough (in_force s cs)) (sym i.held.size) (sym i.reached.size)
     (subst (λ (g : Grid). Enough g (length s.image) (length s.marks)) (sym i.grid)
+    (enough_full s.grid _ _ (is_relaid s cs)
     (record {
       accepted = a.accepted;
       bytes = omega (arith, a.bytes, length-take s.n s.image);
       words = omega (arith, a.words, length-take s.m s.marks);
-    }))
+    })))
 
 -- the plain frame's window is that of its numbers
 frame-window : (f : Frame) → Accepted f.grid → (n : ℕ) (w : Window) (out : List ℕ)

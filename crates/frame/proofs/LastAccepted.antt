@@ -11,13 +11,17 @@ use lib.Dec.{eqb}
 use lib.ListN.{length}
 use Rattle.common.specs.Questions.{outcome}
 use Rattle.common.specs.Tests.{every, pick}
+use Rattle.grid.specs.declared.EdgeRule.TheVariants.{Full}
 use Rattle.grid.specs.declared.Grid.{Grid}
 use Rattle.grid.specs.Check.{Accepted}
 use Rattle.grid.specs.Sizes.{sample_bytes, actual_rows, actual_columns}
 use Rattle.grid.specs.Layout.{Block, Sample}
+use Rattle.grid.specs.EdgeRules.{under_full}
+use Rattle.grid.proofs.Runs.{accepted_rule, block_rule, sample_rule}
 use Rattle.calls.proofs.Numbers.{write-facts, write_data, write-fit}
-use Rattle.frame.specs.Call.{Call, write, skip, progress, finish}
-use Rattle.frame.specs.PlainFrame.{Frame, fit_in_data, written, reach, frame_write, frame_skip, frame_step, frame_call_all}
+use Rattle.frame.specs.Call.{Call, write, skip, progress, finish, relay}
+use Rattle.frame.specs.PlainFrame.{Frame, whole_in_data, number_in_data, fit_in_data, written, reach}
+use Rattle.frame.specs.PlainFrame.{frame_write, frame_skip, frame_relay, frame_step, frame_call_all}
 use Rattle.frame.specs.OwnWords.{Last, nothing, these, accepts, data_after, named_after, last_data, named, value_in}
 use Rattle.frame.proofs.ImageNumbers.{written_same, written-other}
 
@@ -118,6 +122,23 @@ taken-last g y x dat t row column last before dat' e = go (ℕ_discrete row y) (
     go (yes p) (no n) = other (λ _ q. n q)
     go (no n) d = other (λ p _. n p)
 
+-- the same under full
+value_full : (g : Grid) (row column b r c : ℕ) (last : Last)
+    → value_in g row column b r c last ≡ value_in (under_full g) row column b r c last
+unfolding value_in number_in_data whole_in_data actual_rows actual_columns
+value_full g row column b r c nothing = refl
+value_full g row column b r c (these dat) = refl
+
+taken_full : (g : Grid) (row column : ℕ) (dat : List ℕ) → Taken g row column dat → Taken (under_full g) row column dat
+unfolding fit_in_data whole_in_data actual_rows actual_columns
+taken_full g row column dat t =
+    record {
+      enough = accepted_rule Full g t.enough;
+      block = block_rule Full g row column t.block;
+      exact = t.exact;
+      fit = t.fit;
+    }
+
 module _ (f : Frame) (last : ℕ → ℕ → Last) (seen : ℕ → ℕ → Bool) (k : Known f last seen) where
   write_known : (n y x : ℕ) (dat : List ℕ) → (n ≡ 0 → Taken f.grid y x dat)
       → Known (frame_write n f y x dat).frame
@@ -161,6 +182,18 @@ module _ (f : Frame) (last : ℕ → ℕ → Last) (seen : ℕ → ℕ → Bool)
             ∙ ap (λ (t : Bool). t || seen row column) (sym (accepts-refused n y x row column));
       }
 
+  relay_known : (n : ℕ) → Known (frame_relay n f).frame last seen
+  unfolding frame_relay outcome
+  relay_known zero =
+      record {
+        numbers = λ row column b r c s.
+            k.numbers row column b r c (sample_rule f.grid.edges (under_full f.grid) row column b r c s)
+            ∙ value_full f.grid row column b r c (last row column);
+        taken = λ row column dat e. taken_full f.grid row column dat (k.taken row column dat e);
+        reached = k.reached;
+      }
+  relay_known (suc n) = record { numbers = k.numbers; taken = k.taken; reached = k.reached }
+
   call_known : (c : Call)
       → Known (frame_step c f).frame
       (λ row column. data_after c (frame_step c f).answer.number row column (last row column))
@@ -178,6 +211,7 @@ module _ (f : Frame) (last : ℕ → ℕ → Last) (seen : ℕ → ℕ → Bool)
   call_known (skip n m y x) = skip-known _ y x
   call_known (progress m) = k
   call_known (finish n m) = k
+  call_known (relay n m scratch) = relay_known _
 
 -- ---- a list of calls
 

@@ -14,17 +14,18 @@ use Rattle.grid.specs.declared.Grid.{Grid}
 use Rattle.grid.specs.Sizes.{band_bytes, image_bytes, block_index, actual_rows, actual_columns, byte_multiple}
 use Rattle.grid.specs.Layout.{run_byte, place, Block, Sample}
 use Rattle.grid.proofs.SamplePlaces.{run_inside}
-use Rattle.calls.specs.Writes.{data_at, put_block, clear_runs, store_by, store_block}
+use Rattle.calls.specs.Writes.{put_samples, clear_runs, store_by, store_block}
 use Rattle.common.proofs.Turns.{iter_keep}
 use Rattle.common.proofs.Loops.{iter3_keep}
 
 -- ---- what each part of a store keeps
 
-pub put_keep : (g : Grid) (row column : ℕ) (dat : List ℕ) → Block g row column → (Q : List ℕ → Type 0)
-    → ((b r c : ℕ) → Sample g row column b r c → (y : List ℕ) → Q y → Q (put_bits y (place g row column b r c) g.nbpp (data_at g row column dat b r c)))
-    → (image : List ℕ) → Q image → Q (put_block g row column dat image)
-unfolding put_block
-put_keep g row column dat t Q s image q =
+pub put_keep : (g : Grid) (row column : ℕ) (v : ℕ → ℕ → ℕ → ℕ) → Block g row column → (Q : List ℕ → Type 0)
+    → ((b r c : ℕ) → Sample g row column b r c → (y : List ℕ) → Q y
+    → Q (put_bits y (place g row column b r c) g.nbpp (v b r c)))
+    → (image : List ℕ) → Q image → Q (put_samples g row column v image)
+unfolding put_samples
+put_keep g row column v t Q s image q =
     iter3_keep Q (actual_rows g row) g.bands (actual_columns g column) _ image
     (λ r b c hr hb hc y qy. s b r c (record { block = t; in_b = hb; in_r = hr; in_c = hc }) y qy) q
 
@@ -36,9 +37,10 @@ clear_keep g row column Q s image q = iter_keep Q g.bands _ image s q
 
 -- ---- lengths
 
-pub length-put_block : (g : Grid) (row column : ℕ) (dat image : List ℕ) → Block g row column → length (put_block g row column dat image) ≡ length image
-length-put_block g row column dat image t =
-    put_keep g row column dat t (λ y. length y ≡ length image) (λ b r c s y e. length-put_bits y _ _ _ ∙ e) image refl
+pub length-put_samples : (g : Grid) (row column : ℕ) (v : ℕ → ℕ → ℕ → ℕ) (image : List ℕ) → Block g row column
+    → length (put_samples g row column v image) ≡ length image
+length-put_samples g row column v image t =
+    put_keep g row column v t (λ y. length y ≡ length image) (λ b r c s y e. length-put_bits y _ _ _ ∙ e) image refl
 
 pub length-cleared : (g : Grid) (row column k : ℕ) (y : List ℕ) → Block g row column → k < g.bands → image_bytes g ≤ length y
     → length (over y (run_byte g.imode g (block_index g row column) k) (replicate (band_bytes g) 0)) ≡ length y
@@ -54,9 +56,9 @@ length-clear_runs g row column image t h =
 length-store_by : (w : Bool) (g : Grid) (row column : ℕ) (dat image : List ℕ) → Block g row column → image_bytes g ≤ length image
     → length (store_by w g row column dat image) ≡ length image
 unfolding store_by
-length-store_by true g row column dat image t h = length-put_block g row column dat image t
+length-store_by true g row column dat image t h = length-put_samples g row column _ image t
 length-store_by false g row column dat image t h =
-    length-put_block g row column dat (clear_runs g row column image) t ∙ length-clear_runs g row column image t h
+    length-put_samples g row column _ (clear_runs g row column image) t ∙ length-clear_runs g row column image t h
 
 pub length-store_block : (g : Grid) (row column : ℕ) (dat image : List ℕ) → Block g row column → image_bytes g ≤ length image
     → length (store_block g row column dat image) ≡ length image

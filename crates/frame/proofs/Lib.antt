@@ -1,18 +1,22 @@
--- The laws of lists of calls, and the proof of demand 3.
+-- The laws of re-lays and of lists of calls, and the proof of demand 3.
 pub mod ListBits
 pub mod Lengths
 pub mod StoredBits
 pub mod Bounded
+pub mod RelaidBits
+pub mod RelayClaimHolds
 pub mod PlainBytes
 pub mod FitInData
 pub mod PlainBlocks
 pub mod ImageNumbers
 pub mod MarksReached
+pub mod RelaidNumbers
 pub mod ListOfCalls
 pub mod WindowNumbers
 pub mod Demand3Holds
 pub mod DeterminedHolds
 pub mod EitherRuleHolds
+pub mod FullFromStartHolds
 pub mod LastAccepted
 pub mod Unreached
 pub mod OwnWordsHold

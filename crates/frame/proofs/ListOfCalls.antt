@@ -2,33 +2,42 @@
 -- Assumes nothing.
 use Prim.Native.Nat.{ℕ, zero, suc, ◌+◌, ◌*◌, min, ◌≤◌}
 use mathlib.Core.Path.{◌≡◌, refl, sym, ap, ap₂, ◌∙◌, subst, subst₂}
-use mathlib.Core.Bool.{Bool, true, false}
+use mathlib.Core.Bool.{Bool, true, false, ◌||◌}
 use mathlib.Core.List.{List, [], ◌∷◌, ◌++◌, append_assoc}
 use native.Mathlib.Omega.{arith}
+use borrow.Author.Tests.{ne_eqb}
+use lib.Dec.{eqb}
 use lib.ListN.{length, take, drop, replicate, length-take, length-replicate, take-append-drop}
 use lib.Seq.{drop-append-le}
 use Rattle.common.specs.Questions.{outcome}
 use Rattle.common.specs.Over.{over}
+use Rattle.common.specs.Tests.{pick}
 use Rattle.common.proofs.Questions.{outcome-yes}
 use Rattle.grid.specs.declared.Grid.{Grid}
-use Rattle.grid.specs.Sizes.{sample_bytes, blocks, image_bytes, block_index, actual_rows, actual_columns}
+use Rattle.grid.specs.Sizes.{sample_bytes, band_bytes, blocks, image_bytes, block_index, actual_rows, actual_columns}
 use Rattle.grid.specs.Layout.{Block}
+use Rattle.grid.specs.EdgeRules.{under_full}
 use Rattle.grid.proofs.Accepted.{facts}
 use Rattle.marks.specs.Marks.{mark_words, marked, mark}
 use Rattle.calls.specs.Answers.{FrameOut}
 use Rattle.calls.specs.Writes.{frame_out, number, unchanged, start, store_block}
-use Rattle.calls.specs.Orders.{start_number, write_number, skip_number, progress_number}
+use Rattle.calls.specs.Orders.{start_number, write_number, skip_number, progress_number, relay_number}
 use Rattle.calls.specs.Writes as W
-use Rattle.frame.specs.Call.{Call, write, skip, progress, finish}
-use Rattle.frame.specs.Calls.{State, Step, put_back, step, Called, call_all, Start, Accepts, started}
+use Rattle.calls.specs.Relay.{relaid, Relaid}
+use Rattle.calls.specs.Relay as L
+use Rattle.frame.specs.Call.{Call, write, skip, progress, finish, relay}
+use Rattle.frame.specs.Calls.{State, Step, put_back, put_back_relaid, step, Called, call_all, Start, Accepts, started}
+use Rattle.frame.specs.Calls.{relaid_after, any_relaid}
 use Rattle.frame.specs.PlainFrame.{Frame, FrameStep, FrameCalled, frame0, fit_in_data, frame_write, frame_skip}
-use Rattle.frame.specs.PlainFrame.{frame_progress, frame_finish, frame_step, frame_call_all}
+use Rattle.frame.specs.PlainFrame.{frame_progress, frame_finish, frame_relay, frame_step, frame_call_all}
 use Rattle.calls.proofs.Numbers.{Enough, start-facts, write-facts, write_data, write_same, skip-facts, progress-facts}
+use Rattle.calls.proofs.Numbers.{relay-facts}
 use Rattle.frame.proofs.FitInData.{fit_is}
 use Rattle.frame.proofs.ImageNumbers.{Holding, image-started, image-written}
 use Rattle.frame.proofs.MarksReached.{Marking, marks-started, lent-marks, marks-reached, progress-is, finish-is}
+use Rattle.frame.proofs.RelaidNumbers.{image_relaid, marks_relaid}
 
--- what a write and a skip leave, by their number
+-- what a write, a skip and a re-lay leave, by their number
 abbrev write_by : ℕ → Grid → List ℕ → List ℕ → ℕ → ℕ → List ℕ → FrameOut
 write_by k g image marks row column dat =
     outcome k
@@ -39,24 +48,42 @@ abbrev skip_by : ℕ → Grid → List ℕ → List ℕ → ℕ → ℕ → Fram
 skip_by k g image marks row column =
     outcome k (frame_out (number 0) image (mark marks (block_index g row column))) (unchanged image marks)
 
--- after a start with grid g₀ on image₀ and marks₀: the grid in force is that one and the plain frame's, which knows the
--- lengths, and image and marks are as it says
-pub record Inv (g₀ : Grid) (image₀ marks₀ : List ℕ) (s : State) (f : Frame) : Type 0 where
-  pub grid : s.grid ≡ g₀
+abbrev relay_by : ℕ → Grid → List ℕ → List ℕ → Relaid
+relay_by k g image scratch =
+    outcome k
+    (record {
+      number = 0;
+      grid = under_full g;
+      image = relaid g image;
+      scratch = over scratch 0 (replicate (g.bands * band_bytes g) 0);
+    })
+    (λ n. record { number = n; grid = g; image = image; scratch = scratch })
+
+-- after a start with grid g₀ on image₀ and marks₀, with a re-lay accepted since or without: the grid in force is that
+-- one, or that one under full, and the plain frame's, which knows the lengths, and image and marks are as it says
+pub record Inv (g₀ : Grid) (image₀ marks₀ : List ℕ) (full : Bool) (s : State) (f : Frame) : Type 0 where
+  pub grid : s.grid ≡ pick full (under_full g₀) g₀
   pub f-grid : f.grid ≡ s.grid
   pub image-known : f.image_length ≡ length image₀
   pub marks-known : f.marks_length ≡ length marks₀
   pub held : Holding s.grid image₀ s.image f.numbers
   pub reached : Marking s.grid marks₀ s.marks f.reached
 
-pub record StepOk (g₀ : Grid) (image₀ marks₀ : List ℕ) (o : Step) (fo : FrameStep) : Type 0 where
+pub record StepOk (g₀ : Grid) (image₀ marks₀ : List ℕ) (full : Bool) (o : Step) (fo : FrameStep) : Type 0 where
   pub answer : o.answer ≡ fo.answer
-  pub inv : Inv g₀ image₀ marks₀ o.state fo.frame
+  pub inv : Inv g₀ image₀ marks₀ full o.state fo.frame
+
+-- the grid in force under full
+full_of : (g₀ g : Grid) (full : Bool) → g ≡ pick full (under_full g₀) g₀ → under_full g ≡ under_full g₀
+unfolding pick
+full_of g₀ g true e = ap under_full e
+full_of g₀ g false e = ap under_full e
 
 -- ---- one call, where the grid in force is g and the lengths are those of the start
 
-module _ (g₀ g : Grid) (grid : g ≡ g₀) (image₀ marks₀ image marks : List ℕ) (numbers : ℕ → ℕ → ℕ → ℕ)
-    (seen : ℕ → ℕ → Bool) (held : Holding g image₀ image numbers) (reached : Marking g marks₀ marks seen) where
+module _ (g₀ g : Grid) (full : Bool) (grid : g ≡ pick full (under_full g₀) g₀) (image₀ marks₀ image marks : List ℕ)
+    (numbers : ℕ → ℕ → ℕ → ℕ) (seen : ℕ → ℕ → Bool)
+    (held : Holding g image₀ image numbers) (reached : Marking g marks₀ marks seen) where
   abbrev s : State
   s = record { grid = g; image = image; marks = marks }
 
@@ -69,7 +96,7 @@ module _ (g₀ g : Grid) (grid : g ≡ g₀) (image₀ marks₀ image marks : Li
     reached = seen;
   }
 
-  same : Inv g₀ image₀ marks₀ s f
+  same : Inv g₀ image₀ marks₀ full s f
   same =
       record {
         grid = grid;
@@ -81,7 +108,7 @@ module _ (g₀ g : Grid) (grid : g ≡ g₀) (image₀ marks₀ image marks : Li
       }
 
   abbrev Ok : Step → FrameStep → Type 0
-  Ok o fo = StepOk g₀ image₀ marks₀ o fo
+  Ok o fo = StepOk g₀ image₀ marks₀ full o fo
 
   -- what was lent comes back unchanged
   whole : (n m : ℕ) → ◌≡◌ {A = State} s
@@ -95,7 +122,7 @@ module _ (g₀ g : Grid) (grid : g ≡ g₀) (image₀ marks₀ image marks : Li
 
   refused : (n m k : ℕ) → Ok (put_back n m s (frame_out (number k) (take n image) (take m marks)))
       (record { answer = number k; frame = f })
-  refused n m k = record { answer = refl; inv = subst (λ (x : State). Inv g₀ image₀ marks₀ x f) (whole n m) same }
+  refused n m k = record { answer = refl; inv = subst (λ (x : State). Inv g₀ image₀ marks₀ full x f) (whole n m) same }
 
   write_step : (k n m row column : ℕ) (dat : List ℕ)
       → (k ≡ 0 → Enough g (length (take n image)) (length (take m marks)) × Block g row column)
@@ -137,6 +164,32 @@ module _ (g₀ g : Grid) (grid : g ≡ g₀) (image₀ marks₀ image marks : Li
       }
   skip_step (suc k) n m row column q = refused n m (suc k)
 
+  relay_step : (k n m : ℕ) (scratch : List ℕ)
+      → (k ≡ 0 → Enough g (length (take n image)) (length (take m marks)))
+      → let o = put_back_relaid n s (relay_by k g (take n image) scratch) in
+      StepOk g₀ image₀ marks₀ (eqb o.answer.number 0 || full) o (frame_relay k f)
+  unfolding outcome frame_relay pick
+  relay_step zero n m scratch q =
+      let a = q refl in
+      record {
+        answer = refl;
+        inv = record {
+          grid = full_of g₀ g full grid;
+          f-grid = refl;
+          image-known = refl;
+          marks-known = refl;
+          held = image_relaid g (facts g a.accepted) image₀ image numbers held n a.bytes;
+          reached = marks_relaid g marks₀ marks seen reached;
+        };
+      }
+  relay_step (suc k) n m scratch q =
+      rw (ne_eqb (suc k) 0 (λ e. omega arith))
+      (record {
+        answer = refl;
+        inv = subst (λ (x : List ℕ). Inv g₀ image₀ marks₀ full (record { grid = g; image = x; marks = marks }) f)
+            (sym (take-append-drop n image)) same;
+      })
+
   -- the lengths that a call is asked of
   bytes-lent : (n : ℕ) → length (take n image) ≡ min n (length image₀)
   bytes-lent n = length-take n image ∙ ap (min n) held.size
@@ -144,8 +197,9 @@ module _ (g₀ g : Grid) (grid : g ≡ g₀) (image₀ marks₀ image marks : Li
   words-lent : (m : ℕ) → length (take m marks) ≡ min m (length marks₀)
   words-lent m = length-take m marks ∙ ap (min m) reached.size
 
-  step-at : (c : Call) → Ok (step c s) (frame_step c f)
-  unfolding step frame_step W.write W.skip W.progress W.finish
+  step-at : (c : Call)
+      → StepOk g₀ image₀ marks₀ (relaid_after c (step c s).answer.number full) (step c s) (frame_step c f)
+  unfolding step frame_step relaid_after W.write W.skip W.progress W.finish L.relay
   step-at (write n m row column bands rows columns dat) =
       subst₂ (λ (x y : ℕ). Ok (step (write n m row column bands rows columns dat) s)
       (frame_write (write_number g x y row column bands rows columns (length dat) (fit_in_data g row column dat)) f row column dat))
@@ -174,6 +228,12 @@ module _ (g₀ g : Grid) (grid : g ≡ g₀) (image₀ marks₀ image marks : Li
             ∙ ap₂ (λ (x y : ℕ). frame_finish (start_number g x y) f) (bytes-lent n) (words-lent m);
         inv = same;
       }
+  step-at (relay n m scratch) =
+      subst₂ (λ (x y : ℕ). StepOk g₀ image₀ marks₀
+      (relaid_after (relay n m scratch) (step (relay n m scratch) s).answer.number full)
+      (step (relay n m scratch) s) (frame_relay (relay_number g x y (length scratch)) f))
+      (bytes-lent n) (words-lent m)
+      (relay_step _ n m scratch (relay-facts g _ _ (length scratch)))
 
 -- ---- any call
 
@@ -190,27 +250,28 @@ same-frame g n m f e en em =
     }
 
 module _ (g₀ : Grid) (image₀ marks₀ : List ℕ) where
-  pub step_ok : (s : State) (f : Frame) → Inv g₀ image₀ marks₀ s f → (c : Call)
-      → StepOk g₀ image₀ marks₀ (step c s) (frame_step c f)
-  step_ok s f inv c =
-      subst (λ (y : Frame). StepOk g₀ image₀ marks₀ (step c s) (frame_step c y))
+  pub step_ok : (full : Bool) (s : State) (f : Frame) → Inv g₀ image₀ marks₀ full s f → (c : Call)
+      → StepOk g₀ image₀ marks₀ (relaid_after c (step c s).answer.number full) (step c s) (frame_step c f)
+  step_ok full s f inv c =
+      subst (λ (y : Frame). StepOk g₀ image₀ marks₀ (relaid_after c (step c s).answer.number full) (step c s)
+      (frame_step c y))
       (same-frame s.grid (length image₀) (length marks₀) f inv.f-grid inv.image-known inv.marks-known)
-      (step-at g₀ s.grid inv.grid image₀ marks₀ s.image s.marks f.numbers f.reached
+      (step-at g₀ s.grid full inv.grid image₀ marks₀ s.image s.marks f.numbers f.reached
       inv.held inv.reached c)
 
   -- ---- the list
 
-  pub record CalledOk (r : Called) (fr : FrameCalled) : Type 0 where
+  pub record CalledOk (full : Bool) (r : Called) (fr : FrameCalled) : Type 0 where
     pub answers : r.answers ≡ fr.answers
-    pub inv : Inv g₀ image₀ marks₀ r.state fr.frame
+    pub inv : Inv g₀ image₀ marks₀ full r.state fr.frame
 
-  pub calls_ok : (cs : List Call) (s : State) (f : Frame) → Inv g₀ image₀ marks₀ s f
-      → CalledOk (call_all cs s) (frame_call_all cs f)
-  unfolding call_all frame_call_all
-  calls_ok [] s f inv = record { answers = refl; inv = inv }
-  calls_ok (c ∷ cs) s f inv =
-      let o = step_ok s f inv c in
-      let r = calls_ok cs (step c s).state (frame_step c f).frame o.inv in
+  pub calls_ok : (cs : List Call) (full : Bool) (s : State) (f : Frame) → Inv g₀ image₀ marks₀ full s f
+      → CalledOk (any_relaid cs (call_all cs s).answers full) (call_all cs s) (frame_call_all cs f)
+  unfolding call_all frame_call_all any_relaid
+  calls_ok [] full s f inv = record { answers = refl; inv = inv }
+  calls_ok (c ∷ cs) full s f inv =
+      let o = step_ok full s f inv c in
+      let r = calls_ok cs _ (step c s).state (frame_step c f).frame o.inv in
       record { answers = ap₂ ◌∷◌ o.answer r.answers; inv = r.inv }
 
 -- ---- the start
@@ -226,8 +287,8 @@ lent-over xs vs n h =
     (sym (drop-append-le k (take n xs) (drop n xs) (omega arith)) ∙ ap (drop k) (take-append-drop n xs))
 
 pub start_ok : (s : Start) → Accepts s
-    → Inv s.grid s.image s.marks (started s) (frame0 s.grid (length s.image) (length s.marks))
-unfolding started start frame0
+    → Inv s.grid s.image s.marks false (started s) (frame0 s.grid (length s.image) (length s.marks))
+unfolding started start frame0 pick
 start_ok s e =
     let g : Grid = s.grid in
     let a = start-facts g _ _ e in

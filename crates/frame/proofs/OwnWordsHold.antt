@@ -81,7 +81,7 @@ module _ (s : Start) (cs : List Call) (e : Accepts s) where
       }))
 
   answered : (c : Call) → next s cs c ≡ (frame_step c f).answer
-  answered c = (step_ok s.grid s.image s.marks (after s cs).state f (ran s cs e).inv c).answer
+  answered c = (step_ok s.grid s.image s.marks _ (after s cs).state f (ran s cs e).inv c).answer
 
   -- the plain frame's numbers on the grid in force
   numbers : (row column b r c : ℕ) → Sample (in_force s cs) row column b r c

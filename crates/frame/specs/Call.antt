@@ -9,3 +9,5 @@ pub data Call : Type 0 where
   skip : (n m row column : ℕ) → Call
   progress : (m : ℕ) → Call
   finish : (n m : ℕ) → Call
+  -- the list is the scratch that is lent
+  relay : (n m : ℕ) → List ℕ → Call

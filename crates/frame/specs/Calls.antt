@@ -1,12 +1,13 @@
 -- A start and a list of calls after it, each on the image and marks that the one before it left.
 -- Assumes nothing.
-use Rattle.std.specs.Prelude.{ℕ, ◌≡◌, List, [], ◌∷◌, ◌++◌, length, take, drop}
+use Rattle.std.specs.Prelude.{ℕ, ◌≡◌, Bool, true, false, ◌||◌, List, [], ◌∷◌, ◌++◌, eqb, length, take, drop}
 use Rattle.grid.specs.declared.Grid.{Grid}
 use Rattle.calls.specs.declared.Answer.{Answer}
 use Rattle.calls.specs.Answers.{FrameOut}
 use Rattle.calls.specs.Orders.{start_number}
 use Rattle.calls.specs.Writes as W
-use Rattle.frame.specs.Call.{Call, write, skip, progress, finish}
+use Rattle.calls.specs.Relay.{Relaid, relay as relay_by}
+use Rattle.frame.specs.Call.{Call, write, skip, progress, finish, relay}
 
 -- what the calls act on: the grid in force, the image and the marks
 pub record State : Type 0 where
@@ -26,12 +27,21 @@ put_back n m s l =
       state = record { grid = s.grid; image = l.image ++ drop n s.image; marks = l.marks ++ drop m s.marks };
     }
 
+-- the same of a re-lay, which keeps the marks and hands back the grid that is now in force
+abbrev pub put_back_relaid : ℕ → State → Relaid → Step
+put_back_relaid n s l =
+    record {
+      answer = W.number l.number;
+      state = record { grid = l.grid; image = l.image ++ drop n s.image; marks = s.marks };
+    }
+
 unfoldable pub step : Call → State → Step
 step (write n m row column bands rows columns dat) s =
     put_back n m s (W.write s.grid (take n s.image) (take m s.marks) row column bands rows columns dat)
 step (skip n m row column) s = put_back n m s (W.skip s.grid (take n s.image) (take m s.marks) row column)
 step (progress m) s = record { answer = W.progress s.grid (take m s.marks); state = s }
 step (finish n m) s = record { answer = W.finish s.grid (take n s.image) (take m s.marks); state = s }
+step (relay n m scratch) s = put_back_relaid n s (relay_by s.grid (take n s.image) (take m s.marks) scratch)
 
 pub record Called : Type 0 where
   pub answers : List Answer
@@ -69,3 +79,30 @@ after s cs = call_all cs (started s)
 -- the grid in force after them
 abbrev pub in_force : Start → List Call → Grid
 in_force s cs = (after s cs).state.grid
+
+-- is a re-lay among calls
+unfoldable pub has_relay : List Call → Bool
+has_relay [] = false
+has_relay (write n m row column bands rows columns dat ∷ cs) = has_relay cs
+has_relay (skip n m row column ∷ cs) = has_relay cs
+has_relay (progress m ∷ cs) = has_relay cs
+has_relay (finish n m ∷ cs) = has_relay cs
+has_relay (relay n m scratch ∷ cs) = true
+
+-- has a re-lay been accepted after a call that was answered with a number
+unfoldable pub relaid_after : Call → ℕ → Bool → Bool
+relaid_after (write n m row column bands rows columns dat) number before = before
+relaid_after (skip n m row column) number before = before
+relaid_after (progress m) number before = before
+relaid_after (finish n m) number before = before
+relaid_after (relay n m scratch) number before = eqb number 0 || before
+
+-- the same after calls with their answers, in order
+unfoldable pub any_relaid : List Call → List Answer → Bool → Bool
+any_relaid [] told before = before
+any_relaid (c ∷ cs) [] before = before
+any_relaid (c ∷ cs) (a ∷ told) before = any_relaid cs told (relaid_after c a.number before)
+
+-- has a re-lay been accepted after a start and calls
+abbrev pub is_relaid : Start → List Call → Bool
+is_relaid s cs = any_relaid cs (after s cs).answers false

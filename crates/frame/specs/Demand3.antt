@@ -1,17 +1,19 @@
 -- Demand 3 as one statement about a whole list of calls after an accepted start.
 -- Assumes nothing.
 use Rattle.std.specs.Prelude.{ℕ, suc, ◌+◌, ◌-◌, ◌*◌, ◌≤◌, ◌<◌, ◌≡◌, List, length, take, drop}
+use Rattle.common.specs.Tests.{pick}
 use Rattle.bits.specs.Bits.{bit_of, bit_at}
 use Rattle.grid.specs.declared.Grid.{Grid}
 use Rattle.grid.specs.Sizes.{sample_bytes, blocks, image_bytes, block_index}
 use Rattle.grid.specs.Layout.{place, Block, SampleBit}
+use Rattle.grid.specs.EdgeRules.{under_full}
 use Rattle.marks.specs.Marks.{mark_words, marked}
 use Rattle.layout.specs.Bands.{band_count}
 use Rattle.calls.specs.Answers.{Filled}
 use Rattle.calls.specs.Orders.{Window}
 use Rattle.calls.specs.Reads.{window}
 use Rattle.frame.specs.Call.{Call}
-use Rattle.frame.specs.Calls.{State, Start, Accepts, after, in_force}
+use Rattle.frame.specs.Calls.{State, Start, Accepts, after, in_force, is_relaid}
 use Rattle.frame.specs.PlainFrame.{Frame, FrameCalled, frame0, frame_call_all, frame_window}
 
 -- the plain frame that is fed the same: the starting grid, the buffers' lengths and the calls
@@ -58,8 +60,8 @@ pub record KeepsSurplus (g : Grid) (s : Start) (now : State) : Type 0 where
 pub record Holds (s : Start) (cs : List Call) : Type 0 where
   -- each call answers as the plain frame does
   pub answers : (after s cs).answers ≡ (plain s cs).answers
-  -- the grid in force is the starting grid, and the plain frame's
-  pub grid : in_force s cs ≡ s.grid
+  -- the grid in force is the starting grid, or once a re-lay was accepted that one under full; it is the plain frame's
+  pub grid : in_force s cs ≡ pick (is_relaid s cs) (under_full s.grid) s.grid
   pub frame-grid : (plain s cs).frame.grid ≡ in_force s cs
   -- a block's mark is one exactly when the block is reached
   pub marked-reached : (row column : ℕ) → Block (in_force s cs) row column

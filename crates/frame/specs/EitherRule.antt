@@ -1,14 +1,14 @@
 -- One list of calls under either edge rule, document 02's term. The rule says where samples lie at widths that are no
--- byte multiples, and no call tells of that.
+-- byte multiples, and no call tells of that but a re-lay, which asks for the rule.
 -- Assumes nothing.
-use Rattle.std.specs.Prelude.{ℕ, ◌≡◌, true, List, take}
+use Rattle.std.specs.Prelude.{ℕ, ◌≡◌, true, false, List, take}
 use Rattle.grid.specs.declared.EdgeRule.{EdgeRule}
 use Rattle.grid.specs.Sizes.{byte_multiple}
 use Rattle.grid.specs.EdgeRules.{with_rule}
 use Rattle.calls.specs.Orders.{Window}
 use Rattle.calls.specs.Reads.{window}
 use Rattle.frame.specs.Call.{Call}
-use Rattle.frame.specs.Calls.{State, Start, Accepts, after, in_force}
+use Rattle.frame.specs.Calls.{State, Start, Accepts, after, in_force, has_relay}
 
 -- a start and a state under a rule
 abbrev pub start_under : EdgeRule → Start → Start
@@ -28,6 +28,7 @@ pub record SameUnder (e : EdgeRule) (s : Start) (cs : List Call) : Type 0 where
   -- at byte multiples image and marks are the same
   pub buffers : byte_multiple s.grid ≡ true → (after (start_under e s) cs).state ≡ state_under e (after s cs).state
 
--- for every rule, accepted start and list of calls
+-- for every rule, accepted start and list of calls without a re-lay
 abbrev pub EitherRule : Type 0
-EitherRule = (e : EdgeRule) (s : Start) (cs : List Call) → Accepts s → SameUnder e s cs
+EitherRule =
+    (e : EdgeRule) (s : Start) (cs : List Call) → Accepts s → has_relay cs ≡ false → SameUnder e s cs

@@ -12,7 +12,7 @@ use Rattle.grid.specs.Layout.{Block, Sample}
 use Rattle.calls.specs.declared.Answer.{Answer}
 use Rattle.calls.specs.Orders.{Window, rectangle, start_number}
 use Rattle.calls.specs.Reads.{sample_at, window_of, window}
-use Rattle.frame.specs.Call.{Call, write, skip, progress, finish}
+use Rattle.frame.specs.Call.{Call, write, skip, progress, finish, relay}
 use Rattle.frame.specs.Calls.{Start, Accepts, step, after, in_force}
 use Rattle.frame.specs.PlainFrame.{whole_in_data, number_in_data, reached_count}
 
@@ -32,6 +32,7 @@ data_after (write n m y x bands rows columns dat) number row column last =
 data_after (skip n m y x) number row column last = last
 data_after (progress m) number row column last = last
 data_after (finish n m) number row column last = last
+data_after (relay n m scratch) number row column last = last
 
 -- has an accepted write or skip named block (row, column) after a call that was answered with a number
 unfoldable pub named_after : Call → ℕ → ℕ → ℕ → Bool → Bool
@@ -39,6 +40,7 @@ named_after (write n m y x bands rows columns dat) number row column named = acc
 named_after (skip n m y x) number row column named = accepts number y x row column || named
 named_after (progress m) number row column named = named
 named_after (finish n m) number row column named = named
+named_after (relay n m scratch) number row column named = named
 
 -- the same after calls with their answers, in order
 unfoldable pub last_data : List Call → List Answer → ℕ → ℕ → Last → Last

@@ -6,10 +6,12 @@ use Rattle.common.specs.Questions.{outcome}
 use Rattle.common.specs.Tests.{every, pick, all_below}
 use Rattle.grid.specs.declared.Grid.{Grid}
 use Rattle.grid.specs.Sizes.{sample_bytes, actual_rows, actual_columns}
+use Rattle.grid.specs.EdgeRules.{under_full}
 use Rattle.calls.specs.declared.Answer.{Answer}
 use Rattle.calls.specs.Answers.{Filled}
-use Rattle.calls.specs.Orders.{Window, start_number, write_number, skip_number, progress_number, window_number}
-use Rattle.frame.specs.Call.{Call, write, skip, progress, finish}
+use Rattle.calls.specs.Orders.{Window, start_number, write_number, skip_number, progress_number, relay_number}
+use Rattle.calls.specs.Orders.{window_number}
+use Rattle.frame.specs.Call.{Call, write, skip, progress, finish, relay}
 
 -- a number for each band, row and column of the picture, and which blocks are reached, by block row and block column.
 -- It is fed the grid and, of image and marks, only the lengths
@@ -138,6 +140,25 @@ unreached reached across row (suc n) = unreached_in_row reached row 0 across (un
 unfoldable pub frame_finish : ℕ → Frame → Answer
 frame_finish n f = outcome n (unreached f.reached f.grid.nbpr 0 f.grid.nbpc) number_alone
 
+-- ---- re-lay
+
+-- the grid is the one under full; numbers and reached blocks stay
+abbrev pub relaid_step : Frame → FrameStep
+relaid_step f =
+    record {
+      answer = number_alone 0;
+      frame = record {
+        grid = under_full f.grid;
+        image_length = f.image_length;
+        marks_length = f.marks_length;
+        numbers = f.numbers;
+        reached = f.reached;
+      };
+    }
+
+unfoldable pub frame_relay : ℕ → Frame → FrameStep
+frame_relay n f = outcome n (relaid_step f) (refused_step f)
+
 -- ---- the calls
 
 -- a call is asked of the lengths that it lends; progress and question 15 look at the reached blocks
@@ -156,6 +177,8 @@ frame_step (finish n m) f =
       answer = frame_finish (start_number f.grid (min n f.image_length) (min m f.marks_length)) f;
       frame = f;
     }
+frame_step (relay n m scratch) f =
+    frame_relay (relay_number f.grid (min n f.image_length) (min m f.marks_length) (length scratch)) f
 
 pub record FrameCalled : Type 0 where
   pub answers : List Answer

@@ -27,14 +27,16 @@ use Rattle.mask.specs.declared.BlockOffset.{BlockOffset}
 use Rattle.mask.specs.declared.Written.{Written}
 use Rattle.mask.specs.Mask.{no_mask, WrittenOut, MarksOut}
 use Rattle.gezdunar.specs.declared.GridNumbers.{GridNumbers}
+use Rattle.calls.specs.Relay.{Relaid}
+use Rattle.gezdunar.specs.declared.RelayAnswer.{RelayAnswer}
 use Rattle.gezdunar.specs.declared.Place.{Place}
 use Rattle.gezdunar.specs.declared.GridSizes.{GridSizes}
 
 -- ---- the version and the grid
 
--- the boundary's version, 0.5.0: major, minor and patch
+-- the boundary's version, 0.6.0: major, minor and patch
 abbrev pub version : ℕ
-version = 0 * 1_000_000 + 5 * 1_000 + 0
+version = 0 * 1_000_000 + 6 * 1_000 + 0
 
 -- the numbers of a picture in blocks of NPPBV rows and NPPBH columns: NBPR and NBPC by rounding up, 0 for a side 0
 abbrev pub numbers_of : ℕ → ℕ → ℕ → ℕ → ℕ → ℕ → ℕ → ℕ → GridNumbers
@@ -116,6 +118,41 @@ unknown_offset = record { number = 99; given = false; offset = 0 }
 
 abbrev pub unknown_written : Written
 unknown_written = record { number = 99; bytes = 0 }
+
+-- ---- re-lay
+
+-- the numbers with the letter of a rule
+abbrev pub numbers_under : EdgeRule → GridNumbers → GridNumbers
+numbers_under e n =
+    record {
+      nrows = n.nrows;
+      ncols = n.ncols;
+      bands = n.bands;
+      nbpp = n.nbpp;
+      imode = n.imode;
+      edges = edges_letter e;
+      nppbh = n.nppbh;
+      nppbv = n.nppbv;
+      nbpr = n.nbpr;
+      nbpc = n.nbpc;
+    }
+
+-- a re-lay's answer, and the image and the scratch that it leaves
+pub record RelayOut : Type 0 where
+  pub answer : RelayAnswer
+  pub image : List ℕ
+  pub scratch : List ℕ
+
+abbrev pub relay_out : RelayAnswer → List ℕ → List ℕ → RelayOut
+relay_out answer image scratch = record { answer = answer; image = image; scratch = scratch }
+
+-- the number with the grid as it crosses: under full, and beside a refusal as it was given
+abbrev pub relay_answer : GridNumbers → ℕ → RelayAnswer
+relay_answer n number =
+    outcome number (record { number = 0; grid = numbers_under Full n }) (λ k. record { number = k; grid = n })
+
+abbrev pub relaid_out : GridNumbers → Relaid → RelayOut
+relaid_out n l = relay_out (relay_answer n l.number) l.image l.scratch
 
 -- ---- the mask's header, the whole block and the sizes
 

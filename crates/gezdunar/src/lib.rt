@@ -48,6 +48,14 @@ pub struct SubheaderAnswer {
     pub subheader: SubheaderBytes,
 }
 
+// The number of a re-lay, and the grid in force after it: under full, or beside a refusal the one that was given.
+#[repr(C)]
+#[derive(Clone, Copy)]
+pub struct RelayAnswer {
+    pub number: u32,
+    pub grid: GridNumbers,
+}
+
 // Where a part of the image lies, and the call's number.
 #[repr(C)]
 #[derive(Clone, Copy)]

@@ -1,11 +1,14 @@
 // Writing across the boundary.
 ghost use Rattle.std.specs.Prelude.{◌≡◌};
 ghost use Rattle.calls.specs.Writes.{frame_out, number as plain_answer, start, write, skip, progress, finish};
-ghost use Rattle.gezdunar.specs.Boundary.{named_grid, on_known};
+ghost use Rattle.refusals.specs.Refusals.{answer_number};
+ghost use Rattle.calls.specs.Relay.{relay};
+ghost use Rattle.gezdunar.specs.Boundary.{named_grid, on_known, relay_out, relay_answer, relaid_out};
 
-use crate::GridNumbers;
 use crate::names::named_grid;
+use crate::{GridNumbers, RelayAnswer};
 use calls::{Answer, Extent};
+use grid::Grid;
 use refusals::Refusal;
 
 // Starts a frame.
@@ -95,5 +98,42 @@ pub extern "C" fn gezdunar_finalize(image: &[u8], marks: &[u64], numbers: GridNu
     match named_grid(numbers) {
         Some(grid) => Answer::from(writing::finalize(image, marks, grid)),
         None => Answer::from(Refusal::NoMode),
+    }
+}
+
+// The number of a re-lay, beside the numbers of the grid that is then in force.
+fn relay_answer(numbers: GridNumbers, answer: Result<Grid, Refusal>) -> RelayAnswer
+    ensures { result ≡ relay_answer numbers (answer_number answer) }
+{
+    match answer {
+        Ok(_) => RelayAnswer {
+            number: 0,
+            grid: GridNumbers {
+                edges: b'F',
+                ..numbers
+            },
+        },
+        Err(refusal) => RelayAnswer {
+            number: refusal.number(),
+            grid: numbers,
+        },
+    }
+}
+
+// Lays every block of a frame anew, from tight to full edge blocks.
+#[unsafe(no_mangle)]
+pub extern "C" fn gezdunar_relay(
+    image: &mut [u8],
+    marks: &[u64],
+    numbers: GridNumbers,
+    scratch: &mut [u8],
+) -> RelayAnswer
+    ensures { relay_out result image.new scratch.new ≡ on_known (named_grid numbers)
+        (λ g. relaid_out numbers (relay g image.old marks.now scratch.old))
+        (relay_out (relay_answer numbers 99) image.old scratch.old) }
+{
+    match named_grid(numbers) {
+        Some(grid) => relay_answer(numbers, writing::relay(image, marks, grid, scratch)),
+        None => relay_answer(numbers, Err(Refusal::NoMode)),
     }
 }

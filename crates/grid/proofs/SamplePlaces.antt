@@ -24,10 +24,10 @@ use Rattle.grid.proofs.BlockLayouts.{run_is, place_is, end_is, rows-held, column
 -- ---- runs, counted through the image
 
 -- which of the image's runs run k of the block at an index is
-slot : InterleaveMode → Grid → ℕ → ℕ → ℕ
+unfoldable pub slot : InterleaveMode → Grid → ℕ → ℕ → ℕ
 slot m g index k = pick (bands_apart m) (k * blocks g + index) (index * g.bands + k)
 
-slot_is : (m : InterleaveMode) (g : Grid) (index k : ℕ) → run_byte m g index k ≡ slot m g index k * band_bytes g
+pub slot_is : (m : InterleaveMode) (g : Grid) (index k : ℕ) → run_byte m g index k ≡ slot m g index k * band_bytes g
 unfolding slot pick
 slot_is m g index k = go (bands_apart m)
   where
@@ -44,7 +44,7 @@ slot_lt m g index k h h' = go (bands_apart m)
     go true = omega (arith, digits_lt {q = k} {m = g.bands} {r = index} {c = blocks g} h' h)
     go false = digits_lt {q = index} {m = blocks g} h h'
 
-slot_inj : (m : InterleaveMode) (g : Grid) (index k index' k' : ℕ) → index < blocks g → k < g.bands → index' < blocks g → k' < g.bands
+pub slot_inj : (m : InterleaveMode) (g : Grid) (index k index' k' : ℕ) → index < blocks g → k < g.bands → index' < blocks g → k' < g.bands
     → slot m g index k ≡ slot m g index' k' → (index ≡ index') × (k ≡ k')
 unfolding slot pick
 slot_inj m g index k index' k' hi hk hi' hk' = go (bands_apart m)
@@ -67,10 +67,10 @@ run_inside g row column k t hk =
 -- ---- the run of a bit of a sample
 
 -- the run of a sample, and how many samples of the run stand before it
-abbrev run_of : Grid → ℕ → ℕ → ℕ → ℕ → ℕ → ℕ
+abbrev pub run_of : Grid → ℕ → ℕ → ℕ → ℕ → ℕ → ℕ
 run_of g row column b r c = ordinal_in (layout_of g row column) b r c / run_size (layout_of g row column)
 
-abbrev in_run : Grid → ℕ → ℕ → ℕ → ℕ → ℕ → ℕ
+abbrev pub in_run : Grid → ℕ → ℕ → ℕ → ℕ → ℕ → ℕ
 in_run g row column b r c = ordinal_in (layout_of g row column) b r c % run_size (layout_of g row column)
 
 in-layout : (g : Grid) (row column b r c : ℕ) → Sample g row column b r c → SampleIn (layout_of g row column) b r c
@@ -82,14 +82,14 @@ run_place_in g row column b r c t =
     (run_fits (byte_multiple g) g row column) b r c (in-layout g row column b r c t)
 
 -- the run of a bit of a sample, and its place there
-record BitPlace (g : Grid) (row column b r c i : ℕ) : Type 0 where
-  index_lt : block_index g row column < blocks g
-  k_lt : run_of g row column b r c < g.bands
-  off_lt : in_run g row column b r c * g.nbpp + i < band_bytes g * 8
-  is : place g row column b r c + i
+pub record BitPlace (g : Grid) (row column b r c i : ℕ) : Type 0 where
+  pub index_lt : block_index g row column < blocks g
+  pub k_lt : run_of g row column b r c < g.bands
+  pub off_lt : in_run g row column b r c * g.nbpp + i < band_bytes g * 8
+  pub is : place g row column b r c + i
       ≡ slot g.imode g (block_index g row column) (run_of g row column b r c) * (band_bytes g * 8) + (in_run g row column b r c * g.nbpp + i)
 
-bit_place : (g : Grid) (row column b r c i : ℕ) → SampleBit g row column b r c i → BitPlace g row column b r c i
+pub bit_place : (g : Grid) (row column b r c i : ℕ) → SampleBit g row column b r c i → BitPlace g row column b r c i
 unfolding place_in
 bit_place g row column b r c i t =
     let s = run_place_in g row column b r c t.sample in

@@ -2,6 +2,7 @@
 -- Assumes nothing.
 use Rattle.std.specs.Prelude.{ℕ, ◌≡◌, true}
 use Rattle.grid.specs.declared.EdgeRule.{EdgeRule}
+use Rattle.grid.specs.declared.EdgeRule.TheVariants.{Full}
 use Rattle.grid.specs.declared.Grid.{Grid}
 use Rattle.grid.specs.Sizes.{byte_multiple, image_bytes, actual_rows, actual_columns}
 use Rattle.grid.specs.Check.{grid_number}
@@ -22,6 +23,10 @@ with_rule e g =
       nbpr = g.nbpr;
       nbpc = g.nbpc;
     }
+
+-- the grid under full
+abbrev pub under_full : Grid → Grid
+under_full g = with_rule Full g
 
 -- byte multiples lie the same under both rules
 abbrev pub ByteMultiplesLieTheSame : Type 0

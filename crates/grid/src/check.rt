@@ -4,6 +4,7 @@ ghost use Rattle.refusals.specs.Refusals.{answer_number};
 ghost use Rattle.common.specs.Questions.{ask};
 ghost use Rattle.grid.specs.declared.EdgeRule.TheVariants.{Tight};
 ghost use Rattle.grid.specs.Check.{block_side, q1, q2, q3, q4, q6, q11, grid_number, grid_of};
+ghost use Rattle.grid.specs.EdgeRules.{under_full};
 ghost use Rattle.grid.specs.Internal.Blocks.{IsBlock};
 
 use crate::widths::width_bytes;
@@ -156,6 +157,18 @@ impl AcceptedGrid {
             row: row as usize,
             column: column as usize,
         })
+    }
+
+    // The same grid under full.
+    pub fn under_full(self) -> AcceptedGrid
+        ensures { result.grid ≡ under_full self.grid }
+    {
+        AcceptedGrid {
+            grid: Grid {
+                edges: EdgeRule::Full,
+                ..self.grid
+            },
+        }
     }
 
     // Question 11: do so many bytes hold the image?

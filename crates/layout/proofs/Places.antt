@@ -168,9 +168,32 @@ sizes l f =
       last-le = omega (arith, below-runs (l.bands - 1) l.bands l.apart e, f.runs-apart, f.counted);
     }
 
+-- an actual sample is one of the samples of the runs
+pub ordinal_in_runs : (l : BlockLayout) → Sound l → (b r c : ℕ) → Sample l b r c
+    → ordinal_in l b r c < l.bands * run_size l
+ordinal_in_runs l f b r c t =
+    let s = run_place l f b r c t in
+    ordinal_lt l.mode l.bands l.run_rows l.run_columns b r c t.in_b s.r_lt s.c_lt
+
 -- the last actual sample
 pub last-sample : (l : BlockLayout) → Sound l → Sample l (l.bands - 1) (l.rows - 1) (l.columns - 1)
 last-sample l f = record { in_b = omega (arith, f.some-bands); in_r = omega (arith, f.some-rows); in_c = omega (arith, f.some-columns) }
+
+-- the run of the sample at place n of the order, and its bits there
+pub record OrderPlace (l : BlockLayout) (n : ℕ) : Type 0 where
+  pub size-pos : 0 < run_size l
+  pub run_le : l.first + n / run_size l * l.apart + l.apart ≤ 2 ^ 56
+  pub bits_le : n % run_size l * l.nbpp ≤ 2 ^ 59
+
+pub order_place : (l : BlockLayout) → Sound l → (n : ℕ) → n < l.bands * run_size l → OrderPlace l n
+order_place l f n h =
+    let pos : 0 < run_size l = (run_place l f _ _ _ (last-sample l f)).size-pos in
+    let k : n / run_size l < l.bands = (div-lt_iff_lt-mul pos).1 h in
+    record {
+      size-pos = pos;
+      run_le = omega (arith, below-runs _ _ l.apart k, f.counted);
+      bits_le = omega (arith, mul-le-mul_right l.nbpp (mod-lt n pos), (sizes l f).run_bits);
+    }
 
 -- the end is that of the last run, or before it
 end_by_lem : (w : Bool) (l : BlockLayout) → byte_multiple l ≡ w → Sound l → end_by w l ≤ l.first + (l.bands - 1) * l.apart + l.run_bytes

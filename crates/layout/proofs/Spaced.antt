@@ -125,7 +125,7 @@ steps_le R l h = h
 steps_le S l h = h
 
 -- a number that stays below the next multiple
-stays : (n d N : ℕ) → 0 < N → n % N + d < N → ((n + d) / N ≡ n / N) × ((n + d) % N ≡ n % N + d)
+pub stays : (n d N : ℕ) → 0 < N → n % N + d < N → ((n + d) / N ≡ n / N) × ((n + d) % N ≡ n % N + d)
 stays n d N h l =
     let e : n + d ≡ n / N * N + (n % N + d) = omega (arith, div-add-mod' n N) in
     (ap (λ (x : ℕ). x / N) e ∙ digits_div (n / N) l, ap (λ (x : ℕ). x % N) e ∙ digits_mod (n / N) l)

@@ -5,7 +5,7 @@
 ghost use Rattle.std.specs.Prelude.{◌≡◌, ◌+◌, ◌*◌, ◌<◌, ◌≤◌, ◌^◌};
 ghost use Rattle.layout.specs.Order.{bands_apart};
 ghost use Rattle.layout.specs.Internal.Layout.{sample_bytes, byte_multiple, ordinal_in, run_size};
-ghost use Rattle.layout.specs.Internal.Layout.{place, block_end, Sample, Sound};
+ghost use Rattle.layout.specs.Internal.Layout.{bit_of, place, block_end, Sample, Sound};
 ghost use Rattle.layout.specs.Internal.Spacing.{has_strides, strides_of, column_steps, rest_of_run};
 
 use std::fmt;
@@ -95,7 +95,7 @@ impl BlockLayout {
     }
 
     // How many samples stand before sample (b, r, c) in the order of the mode.
-    fn sample_ordinal(self, b: usize, r: usize, c: usize) -> usize
+    pub fn sample_ordinal(self, b: usize, r: usize, c: usize) -> usize
         requires in_runs { (b < self.bands) × (r < self.run_rows) × (c < self.run_columns) }
         requires size_fits { self.bands * run_size self < 2 ^ 64 }
         ensures { result ≡ ordinal_in self b r c }
@@ -110,17 +110,25 @@ impl BlockLayout {
         }
     }
 
-    // The first bit of sample (b, r, c), counted from the first byte on, high bit first.
+    // The first bit of the sample at place n of the order, counted from the first byte on, high bit first.
+    pub fn order_place(self, n: usize) -> usize
+        requires sound { Sound self }
+        requires in_runs { n < self.bands * run_size self }
+        ensures { result ≡ bit_of self n }
+    {
+        let size = self.run_rows * self.run_columns;
+        let bits = self.nbpp as usize;
+        let byte = self.first + n / size * self.apart;
+        8 * byte + n % size * bits
+    }
+
+    // The first bit of sample (b, r, c).
     pub fn sample_place(self, b: usize, r: usize, c: usize) -> usize
         requires sound { Sound self }
         requires sample { Sample self b r c }
         ensures { result ≡ place self b r c }
     {
-        let n = self.sample_ordinal(b, r, c);
-        let size = self.run_rows * self.run_columns;
-        let bits = self.nbpp as usize;
-        let byte = self.first + n / size * self.apart;
-        8 * byte + n % size * bits
+        self.order_place(self.sample_ordinal(b, r, c))
     }
 
     // Do samples stand evenly? They do where each band has a run of its own, and where runs follow each other without a

@@ -14,3 +14,5 @@ pub mod Counted
 pub mod PartReads
 pub mod BlockStores
 pub mod RowRuns
+pub mod Relays
+pub mod SavedRuns

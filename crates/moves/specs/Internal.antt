@@ -7,3 +7,4 @@ pub mod Orders
 pub mod Runs
 pub mod PartReads
 pub mod BlockStores
+pub mod Relays

@@ -9,7 +9,7 @@ use crate::spacing::Spacing;
 use layout::BlockLayout;
 
 // Clears the bytes of each run of a block.
-fn clear_runs(image: &mut [u8], layout: BlockLayout)
+pub(crate) fn clear_runs(image: &mut [u8], layout: BlockLayout)
     requires sound { Sound layout }
     requires image_holds { layout.first + (layout.bands - 1) * layout.apart + layout.run_bytes ≤ length image.old }
     ensures { image.new ≡ clear_runs layout image.old }

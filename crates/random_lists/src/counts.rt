@@ -28,6 +28,7 @@ pub struct Counts {
     pub skips: Tally,
     pub progresses: Tally,
     pub finishes: Tally,
+    pub relays: Tally,
     // The windows on the whole image, and on a part of it.
     pub windows: Tally,
     pub parts: Tally,
@@ -64,6 +65,7 @@ impl fmt::Display for Counts {
         write_tally(f, "skips", self.skips)?;
         write_tally(f, "progress calls", self.progresses)?;
         write_tally(f, "finishes", self.finishes)?;
+        write_tally(f, "re-lays", self.relays)?;
         write_tally(f, "windows", self.windows)?;
         write_tally(f, "windows on a part", self.parts)?;
         write!(f, "differences {}", self.differences)

@@ -25,6 +25,10 @@ impl Run {
 
     // One call on what is lent.
     fn call(&mut self, frame: &mut Frame<'_>) {
+        if self.random.seldom(30) {
+            self.relay(frame);
+            return;
+        }
         match self.random.below(6) {
             0 => self.skip(frame),
             1 => self.progress(frame),

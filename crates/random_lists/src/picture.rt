@@ -112,10 +112,16 @@ impl Picture {
         (self.nppbh * self.nppbv * self.nbpp).div_ceil(8)
     }
 
+    pub fn block_bytes(self) -> usize
+        ensures { result ≤ 600 }
+    {
+        self.bands * self.band_bytes()
+    }
+
     pub fn image_bytes(self) -> usize
         ensures { result ≤ 86400 }
     {
-        self.blocks() * self.bands * self.band_bytes()
+        self.blocks() * self.block_bytes()
     }
 
     // The bands of a block, and its rows and columns that are inside the picture.

@@ -5,6 +5,7 @@ use crate::ends::Window;
 use crate::frame::Frame;
 use crate::plain::Plain;
 use calls::Extent;
+use grid::{EdgeRule, Grid};
 use refusals::Refusal;
 
 // What a write is told: the block, and the shape of its data.
@@ -85,6 +86,19 @@ impl Plain {
             Some((row, column)) => Err(Refusal::UnmarkedBlock { row, column }),
             None => Ok(()),
         }
+    }
+
+    // Questions 11, 12 and 27, then 9 of a scratch of so many bytes; the picture is under full then.
+    pub fn relay(&mut self, frame: &Frame<'_>, scratch: usize) -> Result<Grid, Refusal> {
+        self.start(frame)?;
+        if self.picture.rule == EdgeRule::Full {
+            return Err(Refusal::AlreadyFull);
+        }
+        if scratch < self.picture.block_bytes() {
+            return Err(Refusal::OutputTooShort);
+        }
+        self.picture.rule = EdgeRule::Full;
+        Ok(self.picture.grid())
     }
 
     // Questions 10, 7, 8 and 9, for an image and an output of so many bytes.

@@ -9,6 +9,9 @@ use crate::random::Random;
 use calls::Extent;
 use refusals::Refusal;
 
+// Each byte of a scratch before a call.
+const BEFORE: u8 = 0xAA;
+
 // A block row or column, now and then outside.
 fn some_block(random: &mut Random, blocks: usize) -> usize
     requires { blocks ≤ 12 }
@@ -59,6 +62,15 @@ fn seldom_unfit(random: &mut Random, p: Picture, data: &mut [u8])
     if let Some(first) = data.get_mut(k * p.size()) {
         *first |= 1 << bit;
     }
+}
+
+// How many bytes of a scratch are not as a re-lay leaves them: zeros in the first `cleared`, others as they were.
+fn wrong_bytes(scratch: &[u8], cleared: usize) -> usize {
+    scratch
+        .iter()
+        .enumerate()
+        .filter(|&(i, &byte)| byte != if i < cleared { 0 } else { BEFORE })
+        .count()
 }
 
 impl Run {
@@ -130,5 +142,23 @@ impl Run {
         let a = writing::finalize(frame.image, frame.marks, grid);
         self.counts.compare(a, plain);
         self.counts.finishes.add(plain);
+    }
+
+    // A re-lay with a scratch that now and then is too short.
+    pub fn relay(&mut self, frame: &mut Frame<'_>) {
+        let p = self.plain.picture;
+        let needed = p.block_bytes();
+        let room = needed + self.random.below(3);
+        let room = self.random.size_or_less(room);
+        let mut scratch = [BEFORE; 640];
+        let scratch = &mut scratch[..room];
+        let plain = self.plain.relay(frame, room);
+        let image = &mut *frame.image;
+        let marks = &mut *frame.marks;
+        let a = writing::relay(image, marks, p.grid(), scratch);
+        self.counts.compare(a, plain);
+        self.counts.relays.add(plain);
+        let cleared = if plain.is_ok() { needed } else { 0 };
+        self.counts.differ(wrong_bytes(scratch, cleared));
     }
 }

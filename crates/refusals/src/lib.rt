@@ -59,6 +59,8 @@ pub enum Refusal {
     NamedValue,
     // 26: a sample that is to be written has a bit above NBPP.
     SampleBits,
+    // 27: the edge rule is full already.
+    AlreadyFull,
     // 99: a byte that is no mode, or no edge rule.
     NoMode,
 }
@@ -94,6 +96,7 @@ impl Refusal {
             Self::SubheaderPart => 23,
             Self::NamedValue => 24,
             Self::SampleBits => 26,
+            Self::AlreadyFull => 27,
             Self::NoMode => 99,
         }
     }

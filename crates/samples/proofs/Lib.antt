@@ -4,3 +4,4 @@ pub mod Moves
 pub mod Patched
 pub mod Groups
 pub mod Rows
+pub mod Copied

@@ -17,7 +17,7 @@ fn get_by_eight(src: &[u8], at: usize, width: usize) -> u64
 }
 
 // The same, also where those eight bytes are not all there.
-fn get_packed(src: &[u8], at: usize, width: usize) -> u64
+pub(crate) fn get_packed(src: &[u8], at: usize, width: usize) -> u64
     requires { (width ≤ 57) × (at + width ≤ 8 * length src.now) × (at + width < 2 ^ 64) }
     ensures { result ≡ bits_at src.now at width }
 {

@@ -24,21 +24,21 @@ use Rattle.samples.specs.Internal.Samples.{SamplesFit}
 use Rattle.moves.specs.Internal.Stores.{Writable, put_block as put_in, clear_runs as clear_in, store_by as store_by_in, store_block as store_in, data_at as data_in}
 use Rattle.calls.specs.Orders.{q26}
 use Rattle.calls.proofs.Fit.{fit_at}
-use Rattle.calls.specs.Writes.{data_at, put_block, clear_runs, store_by, store_block}
+use Rattle.calls.specs.Writes.{data_at, put_samples, put_block, clear_runs, store_by, store_block}
 
 -- the word of a block's mark is one of the words
 pub mark_in : (g : Grid) (words row column : ℕ) → mark_words (blocks g) ≤ words → Block g row column → block_index g row column / 64 < words
 mark_in g words row column h b = omega (arith, index_lt g row column b)
 
 put_is : (g : Grid) (row column : ℕ) (dat image : List ℕ) → put_in (layout_of g row column) dat image ≡ put_block g row column dat image
-unfolding put_in put_block data_in data_at
+unfolding put_in put_samples data_in data_at
 put_is g row column dat image =
     iter_ext (actual_rows g row) _ _ image (λ r hr x.
     iter_ext g.bands _ _ x (λ b hb y.
     iter_ext (actual_columns g column) _ _ y (λ c hc z.
     ap (λ (p : ℕ). put_bits z p g.nbpp (data_at g row column dat b r c)) (sym (place_is g row column b r c hr hc)))))
 
-clear_is : (g : Grid) (row column : ℕ) (image : List ℕ) → clear_in (layout_of g row column) image ≡ clear_runs g row column image
+pub clear_is : (g : Grid) (row column : ℕ) (image : List ℕ) → clear_in (layout_of g row column) image ≡ clear_runs g row column image
 unfolding clear_in clear_runs
 clear_is g row column image =
     iter_ext g.bands _ _ image (λ i hi x. ap (λ (p : ℕ). over x p (replicate (band_bytes g) 0)) (sym (run_is g.imode g (block_index g row column) i)))

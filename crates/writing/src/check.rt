@@ -1,12 +1,13 @@
 // The questions of the calls that write. The parameters are the Rust's, by a rule of the project.
-ghost use Rattle.std.specs.Prelude.{◌≡◌, length, IfOk};
+ghost use Rattle.std.specs.Prelude.{◌≡◌, ◌*◌, leb, length, IfOk};
 ghost use Rattle.refusals.specs.Refusals.{answer_number};
+ghost use Rattle.grid.specs.Sizes.{band_bytes};
 ghost use Rattle.grid.specs.Internal.Blocks.{IsBlock};
-ghost use Rattle.calls.specs.Orders.{start_number, skip_number, progress_number, q26, write_number};
+ghost use Rattle.calls.specs.Orders.{start_number, skip_number, progress_number, q26, write_number, q27, relay_number};
 
 use calls::Extent;
 use fits::all_fit;
-use grid::{AcceptedGrid, Grid, GridBlock};
+use grid::{AcceptedGrid, EdgeRule, Grid, GridBlock};
 use refusals::Refusal;
 
 // Questions 1 to 4 and 12, for so many mark words.
@@ -36,7 +37,42 @@ pub fn check_buffers(grid: Grid, image: usize, words: usize) -> Result<AcceptedG
     Ok(grid)
 }
 
-// The same, then question 6.
+// Question 27: is the edge rule still tight?
+fn is_tight(edges: EdgeRule) -> bool
+    ensures { result ≡ q27 edges }
+{
+    matches!(edges, EdgeRule::Tight)
+}
+
+// Question 9 of a scratch: has it a block's bytes?
+fn holds_block(grid: AcceptedGrid, scratch: usize) -> bool
+    ensures { result ≡ leb (grid.grid.bands * band_bytes grid.grid) scratch }
+{
+    grid.block_bytes() <= scratch
+}
+
+// Questions 1 to 4, 11, 12 and 27, then 9 of a scratch of so many bytes.
+pub fn check_relay(
+    grid: Grid,
+    image: usize,
+    words: usize,
+    scratch: usize,
+) -> Result<AcceptedGrid, Refusal>
+    ensures number { answer_number result ≡ relay_number grid image words scratch }
+    ensures same { IfOk result (λ a. a.grid ≡ grid) }
+{
+    let grid = check_buffers(grid, image, words)?;
+    let tight = is_tight(grid.grid.edges);
+    if !tight {
+        return Err(Refusal::AlreadyFull);
+    }
+    if !holds_block(grid, scratch) {
+        return Err(Refusal::OutputTooShort);
+    }
+    Ok(grid)
+}
+
+// Questions 1 to 4, 11, 12 and 6.
 pub fn check_block(
     grid: Grid,
     image: usize,

@@ -11,8 +11,10 @@ use grid::Grid;
 use refusals::Refusal;
 
 mod check;
+mod edges;
 
 use crate::check::{check_block, check_buffers, check_marks, check_write};
+pub use crate::edges::relay;
 use moves::store::store_block;
 
 // Starts a frame: clears the image and the words that hold the grid's marks. The surplus of longer buffers is kept.
