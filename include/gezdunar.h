@@ -17,7 +17,7 @@ extern "C" {
 
 /* The version of this header. It belongs to an archive whose gezdunar_version() answers GEZDUNAR_VERSION. */
 #define GEZDUNAR_VERSION_MAJOR 0
-#define GEZDUNAR_VERSION_MINOR 5
+#define GEZDUNAR_VERSION_MINOR 6
 #define GEZDUNAR_VERSION_PATCH 0
 #define GEZDUNAR_VERSION (GEZDUNAR_VERSION_MAJOR * 1000000 + GEZDUNAR_VERSION_MINOR * 1000 + GEZDUNAR_VERSION_PATCH)
 
@@ -50,6 +50,8 @@ enum gezdunar_refusal {
     GEZDUNAR_NAMED_VALUE = 24,
     /* A sample that is to be written has a bit above NBPP. No call answers 25. */
     GEZDUNAR_SAMPLE_BITS = 26,
+    /* The edge rule is full already. */
+    GEZDUNAR_ALREADY_FULL = 27,
     /* A byte that is no mode, or one that is no edge rule; asked before all other questions. */
     GEZDUNAR_NO_MODE = 99
 };
@@ -84,6 +86,7 @@ static inline const char *gezdunar_refusal_text(uint32_t number) {
         return "a part of the subheader has another length, or a number that is not all digits";
     case GEZDUNAR_NAMED_VALUE: return "PVTYPE, PJUST, IC or IMODE has no named value, or ABPP is above 99";
     case GEZDUNAR_SAMPLE_BITS: return "a sample has a bit above NBPP";
+    case GEZDUNAR_ALREADY_FULL: return "the edge rule is full already";
     case GEZDUNAR_NO_MODE: return "the mode is none of B, P, R and S, or the edge rule none of T and F";
     default: return "refused with a number that has no name here";
     }
@@ -146,6 +149,9 @@ struct gezdunar_place { uint32_t number; size_t start; size_t length; };
 
 /* Answer of a call on a frame; first and second are 0 unless the call says otherwise. */
 struct gezdunar_answer { uint32_t number; size_t first; size_t second; };
+
+/* Answer of a re-lay: the grid that is in force after it. Beside a refusal it is the grid that was handed in. */
+struct gezdunar_relaid { uint32_t number; struct gezdunar_grid grid; };
 
 /* Header of an image data mask table. The standard's names: IMDATOFF, BMRLNTH, TMRLNTH, TPXCDLNTH (bits), TPXCD. */
 struct gezdunar_mask {
@@ -246,6 +252,17 @@ struct gezdunar_answer gezdunar_progress(const uint64_t *marks, size_t marks_len
 struct gezdunar_answer gezdunar_finalize(
     const uint8_t *image, size_t image_length, const uint64_t *marks, size_t marks_length,
     struct gezdunar_grid grid);
+
+/* Lays every block of a frame anew, marked or not, from tight to full: a frame in progress goes on under the other edge
+   rule. Samples keep their values, and so do the marks. Hand the grid of the answer to every later call; beside a
+   refusal it is the one that was handed in, and nothing has changed.
+   Lent: marks, of which only the length is looked at. The scratch has bands x band_bytes bytes at least (block_bytes of
+   gezdunar_sizes, in S too). Written: in the image, where NBPP is no multiple of 8, all bytes of every block, zeros
+   beside the samples; in the scratch its first block_bytes bytes, which end as zeros.
+   Numbers: 0 to 4, 9 (the scratch), 11, 12, 27 (the rule is full already), 99. */
+struct gezdunar_relaid gezdunar_relay(
+    uint8_t *image, size_t image_length, const uint64_t *marks, size_t marks_length, struct gezdunar_grid grid,
+    uint8_t *scratch, size_t scratch_length);
 
 /* The header of an image data mask table, and how many bytes the table takes.
    Lent: table. Written: nothing. Numbers: 0 to 4, 16 to 19, 99. */

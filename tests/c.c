@@ -49,7 +49,7 @@ static bool refused(struct gezdunar_shape s, uint32_t number) {
 static bool pair(const uint8_t *out, uint8_t first, uint8_t second) { return out[0] == first && out[1] == second; }
 
 static void version_and_texts(void) {
-    check("version 0.5.0", GEZDUNAR_VERSION == 5000);
+    check("version 0.6.0", GEZDUNAR_VERSION == 6000);
     check("the header and the archive belong together", gezdunar_version() == GEZDUNAR_VERSION);
     check("accepted in words", strcmp(gezdunar_refusal_text(GEZDUNAR_ACCEPTED), "accepted") == 0);
     check("7 in words", strcmp(gezdunar_refusal_text(7), "the image ends before the block does") == 0);
@@ -59,7 +59,7 @@ static void version_and_texts(void) {
     const char *unknown = gezdunar_refusal_text(98);
     check("an unknown number in words", strcmp(unknown, "refused with a number that has no name here") == 0);
     for (uint32_t n = 0; n < 100; n++) {
-        bool is_named = n <= 24 || n == 26 || n == 99;
+        bool is_named = n <= 24 || n == 26 || n == 27 || n == 99;
         check("every number has words", is_named == (strcmp(gezdunar_refusal_text(n), unknown) != 0));
     }
 }
@@ -134,6 +134,9 @@ static void no_rule_in_writes(struct gezdunar_grid g) {
     check("no rule: skip", is_99(gezdunar_skip_block(image, 64, marks, 1, g, 0, 0)));
     check("no rule: progress", is_99(gezdunar_progress(marks, 1, g)));
     check("no rule: finalize", is_99(gezdunar_finalize(image, 64, marks, 1, g)));
+    uint8_t *scratch = LENT(uint8_t, 0xAA, 0xAA);
+    struct gezdunar_relaid r = gezdunar_relay(image, 64, marks, 1, g, scratch, 2);
+    check("no rule: relay", r.number == GEZDUNAR_NO_MODE && same_grid(r.grid, g) && pair(scratch, 0xAA, 0xAA));
     check("no rule: a write writes nothing", *marks == 0xA && memcmp(image, counting(64), 64) == 0);
 }
 
@@ -464,6 +467,27 @@ static void writes(uint8_t edges) {
     check("figure k, sample F123", a.number == GEZDUNAR_SAMPLE_BITS && pair(small, 0, 0) && *marks == 0);
 }
 
+/* Figure m's blocks from tight to full: bytes 59 00 of block (0, 1) become 50 90. The image has a byte of surplus, and
+   so has the scratch. */
+static void relays(void) {
+    const struct gezdunar_grid tight = gezdunar_grid(2, 3, 1, 4, 'B', 'T', 2, 2);
+    const struct gezdunar_grid full = gezdunar_grid(2, 3, 1, 4, 'B', 'F', 2, 2);
+    uint8_t *image = LENT(uint8_t, 0x12, 0x45, 0x59, 0xFF, 0xAA), *scratch = LENT(uint8_t, 0xAA, 0xAA, 0xAA);
+    const uint64_t *marks = LENT(uint64_t, 2);
+    struct gezdunar_relaid r = gezdunar_relay(image, 5, marks, 1, tight, scratch, 1);
+    check("a scratch too small", r.number == GEZDUNAR_OUTPUT_TOO_SHORT && same_grid(r.grid, tight) && image[3] == 0xFF);
+    r = gezdunar_relay(image, 5, marks, 1, full, scratch, 1);
+    check("27 before 9", r.number == GEZDUNAR_ALREADY_FULL && same_grid(r.grid, full));
+    r = gezdunar_relay(image, 5, marks, 0, full, scratch, 1);
+    check("12 before 27", r.number == GEZDUNAR_MARKS_TOO_SHORT && scratch[0] == 0xAA);
+    r = gezdunar_relay(image, 5, marks, 1, tight, scratch, 3);
+    check("relay", r.number == 0 && same_grid(r.grid, full) && *marks == 2);
+    check("figure m from tight to full", pair(image, 0x12, 0x45) && pair(image + 2, 0x50, 0x90) && image[4] == 0xAA);
+    check("the scratch ends as zeros", pair(scratch, 0, 0) && scratch[2] == 0xAA);
+    r = gezdunar_relay(image, 5, marks, 1, r.grid, scratch, 3);
+    check("the rule is full now", r.number == GEZDUNAR_ALREADY_FULL && same_grid(r.grid, full));
+}
+
 /* The number of a write of a row of samples into an image and marks that hold 0xAA. A refused one must keep both, an
    accepted one must be read back as it was. */
 static uint32_t write_row(uint32_t nbpp, uint32_t n, const uint8_t *data, size_t length) {
@@ -574,6 +598,11 @@ static void null_with_length_0(void) {
     check("null: progress", gezdunar_progress(NULL, 0, g).number == 12);
     check("null: finalize", gezdunar_finalize(NULL, 0, NULL, 0, g).number == 11);
     check("null: finalize, marks", gezdunar_finalize(image, 64, NULL, 0, g).number == 12);
+    struct gezdunar_grid tight = g;
+    tight.edges = 'T';
+    check("null: relay", gezdunar_relay(NULL, 0, NULL, 0, tight, NULL, 0).number == 11);
+    check("null: relay, marks", gezdunar_relay(image, 64, NULL, 0, tight, NULL, 0).number == 12);
+    check("null: relay, scratch", gezdunar_relay(image, 64, marks, 1, tight, NULL, 0).number == 9);
 }
 
 static void null_tables_with_length_0(void) {
@@ -618,6 +647,7 @@ int main(void) {
     }
     figure_m('T', 0x59, 0x00);
     figure_m('F', 0x50, 0x90);
+    relays();
     corners_of_12_bits();
     for (int i = 0; i < 4; i++) byte_multiples((uint8_t)"BPRS"[i]);
     samples_that_do_not_fit();

@@ -71,21 +71,21 @@ pub fn decode(grid: &Grid, block: Block, bands: Option<&[u32]>, memcpy: Memcpy) 
 }
 
 /// The image and the marks that the product writes.
-struct Frame {
+pub struct Frame {
     image: Output,
     marks: Vec<u64>,
 }
 
 impl Frame {
-    fn start(grid: &Grid) -> Frame {
+    pub fn start(grid: &Grid) -> Frame {
         let sizes = sizes(grid);
         let mut frame = Frame { image: Output::new(sizes.image_bytes), marks: vec![0; sizes.mark_words] };
         gezdunar::start(frame.image.bytes(), &mut frame.marks, grid).expect("room for the image and the marks");
         frame
     }
 
-    fn encode_block(&mut self, grid: &Grid, block: Block, data: &OwnedBuffer) {
-        let (image, data) = (self.image.bytes(), black_box(data.as_bytes()));
+    fn encode_block(&mut self, grid: &Grid, block: Block, data: &[u8]) {
+        let (image, data) = (self.image.bytes(), black_box(data));
         gezdunar::encode_block(image, &mut self.marks, grid, block.0, block.1, shape(grid, block, None), data)
             .expect("a block of the grid");
     }
@@ -95,12 +95,17 @@ impl Frame {
 pub fn relaid(grid: &Grid, tight: &OwnedBuffer) -> OwnedBuffer {
     let from = Grid { edges: EdgeRule::Tight, ..*grid };
     let mut frame = Frame::start(grid);
-    for block in (0..grid.nbpc).flat_map(|row| (0..grid.nbpr).map(move |column| (row, column))) {
-        let mut samples = Output::new(decoded_bytes(grid, block, None));
-        decode_block(tight, &from, block, None, &mut samples);
-        frame.encode_block(grid, block, &source_of(samples.bytes()));
-    }
+    let mut samples = Output::new(decoded_bytes(grid, (0, 0), None));
+    read_and_write(tight, &from, grid, &mut frame, &mut samples);
     source_of(frame.image.bytes())
+}
+
+/// Every block of an image is read under one grid and written under another. `samples` has room for a block's.
+pub fn read_and_write(image: &OwnedBuffer, from: &Grid, to: &Grid, frame: &mut Frame, samples: &mut Output) {
+    for block in (0..from.nbpc).flat_map(|row| (0..from.nbpr).map(move |column| (row, column))) {
+        decode_block(image, from, block, None, samples);
+        frame.encode_block(to, block, &samples.bytes()[..decoded_bytes(to, block, None)]);
+    }
 }
 
 /// Bytes of the image that a block's samples take.
@@ -126,7 +131,7 @@ pub fn encode(grid: &Grid, block: Block, memcpy: Memcpy) -> Times {
     let taken = encoded_bytes(grid, block);
     let mut copied = Output::new(if runs.is_some() { sizes(grid).image_bytes } else { taken });
 
-    frame.encode_block(grid, block, &data);
+    frame.encode_block(grid, block, data.as_bytes());
     let mut encoder = rust::encoder(grid);
     rust::encode_block(&mut encoder, block, shape, host_data.as_bytes());
     rust::skip_blocks(&mut encoder, grid, None);
@@ -142,7 +147,7 @@ pub fn encode(grid: &Grid, block: Block, memcpy: Memcpy) -> Times {
     let mut encoder = rust::encoder(grid);
     Times::new(best([
         Side::Call(&mut || rust::encode_block(&mut encoder, block, shape, black_box(host_data.as_bytes()))),
-        Side::Call(&mut || frame.encode_block(grid, block, &data)),
+        Side::Call(&mut || frame.encode_block(grid, block, data.as_bytes())),
         Side::Call(&mut || apply(&moves, data.as_bytes(), &mut copied)),
     ]))
 }

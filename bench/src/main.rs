@@ -12,6 +12,7 @@ mod measure;
 mod moves;
 mod original;
 mod page;
+mod relays;
 mod reorderings;
 mod report;
 mod rows;

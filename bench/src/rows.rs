@@ -7,7 +7,7 @@ use crate::moves::Memcpy;
 use crate::original::Block;
 use crate::reorderings::{self, Pack};
 use crate::report::{Target, Times};
-use crate::{blocks, marks, masks, windows};
+use crate::{blocks, marks, masks, relays, windows};
 
 pub struct Row {
     pub name: String,
@@ -222,6 +222,23 @@ fn selected() -> Vec<Row> {
     rows
 }
 
+/// Re-lays of four blocks, of which three are edge blocks.
+fn relays() -> Vec<Row> {
+    let mut rows = Vec::new();
+    for mode in Mode::ALL {
+        for nbpp in [4, 12] {
+            let grid = edge_grid(mode, nbpp);
+            rows.push(Row {
+                name: format!("relay {mode}, {nbpp} bits, 4 bands, 4 blocks"),
+                bytes: relays::image_bytes(&grid),
+                target: at_least(0.5),
+                work: Box::new(move || relays::relay_image(&grid)),
+            });
+        }
+    }
+    rows
+}
+
 fn plain(name: &str, bytes: usize, target: Target, work: fn() -> Times) -> Row {
     Row { name: name.into(), bytes, target, work: Box::new(work) }
 }
@@ -259,6 +276,7 @@ pub fn sections() -> Vec<(&'static str, Vec<Row>)> {
         ("Reorderings from band order", reordered("from_band_sequential", reorderings::from_band_sequential)),
         ("Listed bands of pixels", selected()),
         ("Many runs beside one memcpy of as many bytes", at_once()),
+        ("Re-lays", relays()),
         ("Mask tables", mask_tables()),
         ("Progress and finish", progress_and_finish()),
     ]

@@ -65,6 +65,13 @@ pub(crate) struct Place {
     pub length: usize,
 }
 
+/// Answer of a re-lay, with the grid that is in force after it: one that was handed in, or that one under full.
+#[repr(C)]
+pub(crate) struct Relaid {
+    pub number: u32,
+    pub grid: Grid,
+}
+
 /// Answer of a call on a frame.
 #[repr(C)]
 pub(crate) struct Answer {
@@ -167,6 +174,11 @@ extern "C" {
     fn gezdunar_finalize(
         image: *const u8, image_length: usize, marks: *const u64, marks_length: usize, grid: Grid,
     ) -> Answer;
+
+    fn gezdunar_relay(
+        image: *mut u8, image_length: usize, marks: *const u64, marks_length: usize, grid: Grid,
+        scratch: *mut u8, scratch_length: usize,
+    ) -> Relaid;
 
     fn gezdunar_mask_parse(table: *const u8, table_length: usize, grid: Grid) -> Parsed;
 
@@ -381,6 +393,21 @@ pub(crate) fn progress(marks: &[u64], grid: &Grid) -> Answer {
 pub(crate) fn finalize(image: &[u8], marks: &[u64], grid: &Grid) -> Answer {
     // SAFETY: borrowed slices.
     unsafe { gezdunar_finalize(image.as_ptr(), image.len(), marks.as_ptr(), marks.len(), *grid) }
+}
+
+pub(crate) fn relay(image: &mut [u8], marks: &[u64], grid: &Grid, scratch: &mut [u8]) -> Relaid {
+    // SAFETY: borrowed slices; the answer has the letters of IMODE and of the edge rule that are handed in, or F.
+    unsafe {
+        gezdunar_relay(
+            image.as_mut_ptr(),
+            image.len(),
+            marks.as_ptr(),
+            marks.len(),
+            *grid,
+            scratch.as_mut_ptr(),
+            scratch.len(),
+        )
+    }
 }
 
 pub(crate) fn mask_parse(table: &[u8], grid: &Grid) -> Parsed {

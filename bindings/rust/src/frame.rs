@@ -1,7 +1,7 @@
 //! A frame that owns its image and its marks.
 
 use crate::vectors::zeros;
-use crate::{encode_block, finalize, progress, skip_block, start, Grid, Refusal, Shape};
+use crate::{encode_block, finalize, progress, relay, skip_block, start, Grid, Refusal, Shape};
 
 /// An image that is being written, its marks and its grid.
 ///
@@ -99,6 +99,28 @@ impl Frame {
     /// ```
     pub fn finalize(&self) -> Result<(), Refusal> {
         finalize(&self.image, &self.marks, &self.grid)
+    }
+
+    /// Lays every block anew, from tight edge blocks to full ones, and goes on under the full edge rule, as the function
+    /// [`relay`] does. Samples and marks stay, and the frame's grid is then the one with full. Numbers: 27; 9 where there
+    /// is no memory for a block's bytes.
+    ///
+    /// ```
+    /// # fn main() -> Result<(), gezdunar::Refusal> {
+    /// # use gezdunar::{EdgeRule, Frame, Grid, InterleaveMode};
+    /// let mut frame = Frame::new(Grid::new(2, 3, 1, 4, InterleaveMode::B, EdgeRule::Tight, 2, 2))?;
+    /// frame.encode_block(0, 1, frame.grid().block_shape(0, 1), &[5, 9])?;
+    /// assert_eq!(frame.image(), [0, 0, 0x59, 0x00]);
+    /// frame.relay()?;
+    /// assert_eq!(frame.grid().edges, EdgeRule::Full);
+    /// assert_eq!(frame.image(), [0, 0, 0x50, 0x90]);
+    /// # Ok(())
+    /// # }
+    /// ```
+    pub fn relay(&mut self) -> Result<(), Refusal> {
+        let mut scratch = zeros(self.grid.sizes()?.block_bytes, Refusal::OutputTooShort)?;
+        self.grid = relay(&mut self.image, &self.marks, &self.grid, &mut scratch)?;
+        Ok(())
     }
 
     /// The grid.

@@ -3,9 +3,9 @@
 //! A picture is described by a [`Grid`]. [`ImageSubheader`] reads it from three parts of an image subheader, and writes
 //! it there. What such parts do not tell is the [`EdgeRule`], which must be known where the bits of a sample are no
 //! multiple of 8. A picture's blocks are written into an image with a [`Frame`], or into lent buffers with [`start`],
-//! [`encode_block`], [`skip_block`], [`progress`] and [`finalize`]. They are read with [`decode_block`],
-//! [`whole_block`] and [`read_window`]. Samples outside the image stand band by band, row by row, each in its
-//! big-endian bytes.
+//! [`encode_block`], [`skip_block`], [`progress`] and [`finalize`]; [`relay`] changes the edge rule on the way. They are
+//! read with [`decode_block`], [`whole_block`] and [`read_window`]. Samples outside the image stand band by band, row by
+//! row, each in its big-endian bytes.
 //!
 //! A call that fills a lent output has a second form, named with `_vec` at its end, that returns a vector of exact size
 //! instead. Every call asks its questions before it writes: a refused one answers a [`Refusal`] and writes nothing. A
@@ -66,4 +66,4 @@ pub use reorderings::{
     to_band_sequential_vec, Reordered,
 };
 pub use subheader::{ImageSubheader, SubheaderParts};
-pub use writes::{encode_block, finalize, progress, skip_block, start};
+pub use writes::{encode_block, finalize, progress, relay, skip_block, start};

@@ -69,6 +69,8 @@ pub enum Refusal {
     NamedValue,
     /// 26: a sample that is to be written has a bit above NBPP.
     SampleBits,
+    /// 27: the edge rule is full already.
+    AlreadyFull,
     /// 99: a byte or a text that is no mode, or no edge rule.
     NoMode,
     /// A number that has no name here.
@@ -112,6 +114,7 @@ impl Refusal {
             23 => Refusal::SubheaderPart,
             24 => Refusal::NamedValue,
             26 => Refusal::SampleBits,
+            27 => Refusal::AlreadyFull,
             99 => Refusal::NoMode,
             other => Refusal::Unknown(other),
         })
@@ -149,6 +152,7 @@ impl Refusal {
             Refusal::SubheaderPart => 23,
             Refusal::NamedValue => 24,
             Refusal::SampleBits => 26,
+            Refusal::AlreadyFull => 27,
             Refusal::NoMode => 99,
             Refusal::Unknown(number) => number,
         }
@@ -182,6 +186,7 @@ impl Refusal {
             Refusal::SubheaderPart => "a part of the subheader has another length, or a number that is not all digits",
             Refusal::NamedValue => "PVTYPE, PJUST, IC or IMODE has no named value, or ABPP is above 99",
             Refusal::SampleBits => "a sample has a bit above NBPP",
+            Refusal::AlreadyFull => "the edge rule is full already",
             Refusal::NoMode => "the mode is none of B, P, R and S, or the edge rule none of T and F",
             Refusal::Unknown(_) => "refused with a number that has no name here",
         }

@@ -105,6 +105,30 @@ pub fn finalize(image: &[u8], marks: &[u64], grid: &Grid) -> Result<(), Refusal>
     })
 }
 
+/// Lays every block of a frame anew, marked or not, from tight edge blocks to full ones: a frame in progress goes on
+/// under the other edge rule. Samples keep their values, and no mark changes. The answer is the grid that is in force
+/// now; hand it to every later call. Of the marks only the length is looked at. The scratch has a block's bytes at least
+/// ([`Sizes::block_bytes`](crate::Sizes::block_bytes), in S too); those end as zeros. Numbers: 1 to 4, 9, 11, 12, 27.
+///
+/// ```
+/// # fn main() -> Result<(), gezdunar::Refusal> {
+/// use gezdunar::{relay, EdgeRule, Grid, InterleaveMode, Refusal};
+/// // 2 rows by 3 columns of 4 bits, in blocks of 2 by 2: block (0, 1) has one column in the picture.
+/// let tight = Grid::new(2, 3, 1, 4, InterleaveMode::B, EdgeRule::Tight, 2, 2);
+/// let (mut image, marks, mut scratch) = ([0, 0, 0x59, 0x00], [2], [7; 2]);
+/// let full = relay(&mut image, &marks, &tight, &mut scratch)?;
+/// assert_eq!(full, Grid { edges: EdgeRule::Full, ..tight });
+/// assert_eq!((image, scratch), ([0, 0, 0x50, 0x90], [0; 2]));
+/// assert_eq!(relay(&mut image, &marks, &full, &mut scratch), Err(Refusal::AlreadyFull));
+/// # Ok(())
+/// # }
+/// ```
+pub fn relay(image: &mut [u8], marks: &[u64], grid: &Grid, scratch: &mut [u8]) -> Result<Grid, Refusal> {
+    let answer = boundary::relay(image, marks, grid, scratch);
+    accepted(answer.number)?;
+    Ok(answer.grid)
+}
+
 /// A block's row or column, which is below 9,999.
 fn index(number: usize) -> u32 {
     u32::try_from(number).unwrap_or(u32::MAX)

@@ -7,7 +7,7 @@ use common::{exact, expected, subheader};
 use gezdunar::{
     decode_block, decode_block_vec, encode_block, finalize, from_band_sequential, from_band_sequential_vec,
     fused_bip_to_bsq, fused_bip_to_bsq_vec, get_block_offset, has_block, mask_from_marks, mask_from_marks_vec,
-    mask_parse, mask_write, mask_write_vec, progress, read_window, read_window_vec, skip_block, start,
+    mask_parse, mask_write, mask_write_vec, progress, read_window, read_window_vec, relay, skip_block, start,
     to_band_sequential, to_band_sequential_vec, whole_block, Bands, EdgeRule, Frame, Grid, ImageDataMask,
     ImageSubheader, InterleaveMode, Refusal, Shape, Window,
 };
@@ -227,7 +227,7 @@ fn write_holds(lent: (&[u8], &[u64]), grid: &Grid, block: (u32, u32), shape: Sha
 #[test]
 fn writes() {
     let mut random = Random(2);
-    let (mut accepted, mut too_large, mut counted, mut finished) = (0, 0, 0, 0);
+    let (mut accepted, mut too_large, mut counted, mut finished, mut laid) = (0, 0, 0, 0, 0);
     for _ in 0..3_000 {
         let (grid, image, marks) = (random.grid(), random.bytes(), random.marks());
         let (row, column) = (random.number(), random.number());
@@ -238,14 +238,33 @@ fn writes() {
         let number = write_holds((&image, &marks), &grid, (row, column), shape, &data);
         (accepted, too_large) = (accepted + u32::from(number == 0), too_large + u32::from(number == 26));
         accepted += u32::from(kept(&marks, |marks| skip_block(&image, marks, &grid, row, column)) == 0);
+        laid += u32::from(relay_holds(&image, &marks, &grid, [0, 20, 600][random.below(3)]));
         let [some, all] = marks_hold(&image, &marks, &grid);
         (counted, finished) = (counted + u32::from(some), finished + u32::from(all));
         if grid.sizes().is_ok_and(|sizes| sizes.image_bytes < 1 << 20) {
             assert!(Frame::new(grid).is_ok());
         }
     }
-    let enough = accepted > 500 && too_large > 20 && counted > 500 && finished > 100;
-    assert!(enough, "{accepted} accepted, {too_large} too large, {counted} counted, {finished} finished");
+    let enough = accepted > 500 && too_large > 20 && counted > 500 && finished > 100 && laid > 100;
+    assert!(enough, "{accepted} accepted, {too_large} too large, {counted} counted, {finished} finished, {laid} laid");
+}
+
+/// Lays a copy of the image anew, with a scratch of so many bytes; both must be as before where it is refused. Compares
+/// with what is expected. Is it accepted?
+fn relay_holds(image: &[u8], marks: &[u64], grid: &Grid, scratch: usize) -> bool {
+    let (mut laid, mut scratch) = (exact(image), exact(&vec![0xAA; scratch]));
+    let answer = relay(&mut laid, marks, grid, &mut scratch);
+    let expected = match expected::finalize(image, marks, grid) {
+        Ok(()) | Err(Refusal::UnmarkedBlock { .. }) if grid.edges == EdgeRule::Full => Err(Refusal::AlreadyFull),
+        Ok(()) | Err(Refusal::UnmarkedBlock { .. }) if scratch.len() < grid.sizes().map_or(0, |s| s.block_bytes) => {
+            Err(Refusal::OutputTooShort)
+        }
+        Ok(()) | Err(Refusal::UnmarkedBlock { .. }) => Ok(Grid { edges: EdgeRule::Full, ..*grid }),
+        Err(refusal) => Err(refusal),
+    };
+    assert_eq!(answer, expected, "{grid:?}");
+    assert!(answer.is_ok() || (*laid == *image && scratch.iter().all(|&byte| byte == 0xAA)), "{grid:?}");
+    answer.is_ok()
 }
 
 /// Calls with a copy of the marks, which must be as before where it is refused.

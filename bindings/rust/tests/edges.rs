@@ -5,7 +5,7 @@ mod common;
 use common::expected::packed_bit;
 use common::{block_samples, blocks, exact, modes_and_rules, sample, samples, shape, WIDTHS};
 use gezdunar::{
-    decode_block_vec, encode_block, read_window_vec, whole_block, Bands, EdgeRule, Grid, InterleaveMode, Window,
+    decode_block_vec, encode_block, read_window_vec, relay, whole_block, Bands, EdgeRule, Grid, InterleaveMode, Window,
 };
 
 /// The widths at which the rules differ.
@@ -181,5 +181,79 @@ fn a_wrong_guess_gives_believable_samples() {
             let (_, inside) = decode_block_vec(&image, &wrong, 0, 0, 0, Bands::All).expect("an accepted read");
             assert_eq!(inside, *block_samples(&grid, &[0, 1, 2], 0, 0), "{imode}");
         }
+    }
+}
+
+/// The image with ones in each bit that is of no sample.
+fn with_ones_beside(image: &[u8], grid: &Grid) -> Vec<u8> {
+    let mut ones = vec![0xFF; image.len()];
+    for block in blocks(grid) {
+        for place in 0..grid.block_shape(block.0, block.1).bytes(1) {
+            let (rows, columns) = (grid.actual_rows(block.0), grid.actual_columns(block.1));
+            let [band, row, column] = [place / (rows * columns), place / columns % rows, place % columns];
+            let first = packed_bit(grid, block, [band, row, column]);
+            (first..first + grid.nbpp as usize).for_each(|bit| ones[bit / 8] &= !(1 << (7 - bit % 8)));
+        }
+    }
+    image.iter().zip(ones).map(|(byte, ones)| byte | ones).collect()
+}
+
+#[test]
+fn a_relay_leaves_what_full_from_the_start_has() {
+    for imode in InterleaveMode::ALL {
+        for nbpp in packed_widths() {
+            for (bands, nppbh, nppbv) in [(1, 3, 2), (2, 4, 3), (3, 5, 4), (2, 8, 8), (5, 7, 3)] {
+                let tight = Grid::new(5, 7, bands, nbpp, imode, EdgeRule::Tight, nppbh, nppbv);
+                let full = Grid { edges: EdgeRule::Full, ..tight };
+                let size = tight.sizes().expect("an accepted grid").block_bytes;
+                let mut image = exact(&[&with_ones_beside(&expected_image(&tight), &tight)[..], &[0xAA; 3]].concat());
+                let mut scratch = exact(&vec![0xAA; size + 2]);
+                let marks = exact(&vec![0x5A; tight.sizes().expect("an accepted grid").mark_words]);
+                assert_eq!(relay(&mut image, &marks, &tight, &mut scratch), Ok(full));
+                let length = image.len() - 3;
+                assert_eq!(image[..length], expected_image(&full), "{tight:?}");
+                assert_eq!((&image[length..], &scratch[size..]), (&[0xAA; 3][..], &[0xAA; 2][..]));
+                assert!(scratch[..size].iter().all(|&byte| byte == 0));
+                reads_hold(&image, &full);
+            }
+        }
+    }
+}
+
+#[test]
+fn at_byte_multiples_a_relay_clears_the_scratch_alone() {
+    for imode in InterleaveMode::ALL {
+        for nbpp in [8, 16, 24, 64] {
+            let tight = Grid::new(5, 7, 2, nbpp, imode, EdgeRule::Tight, 4, 3);
+            let sizes = tight.sizes().expect("an accepted grid");
+            let before: Vec<u8> = (0..sizes.image_bytes).map(|i| i as u8).collect();
+            let (mut image, mut scratch) = (exact(&before), exact(&vec![0xAA; sizes.block_bytes]));
+            let marks = exact(&vec![0; sizes.mark_words]);
+            let full = Grid { edges: EdgeRule::Full, ..tight };
+            assert_eq!(relay(&mut image, &marks, &tight, &mut scratch), Ok(full));
+            assert_eq!((&*image, &*scratch), (&before[..], &vec![0; sizes.block_bytes][..]));
+        }
+    }
+}
+
+#[test]
+fn a_relay_is_refused_in_order() {
+    let tight = Grid::new(5, 7, 2, 12, InterleaveMode::S, EdgeRule::Tight, 4, 3);
+    let full = Grid { edges: EdgeRule::Full, ..tight };
+    let sizes = tight.sizes().expect("an accepted grid");
+    let (whole, words, room) = (sizes.image_bytes, sizes.mark_words, sizes.block_bytes);
+    let wrong = Grid { nbpp: 17, ..full };
+    for (grid, image, marks, scratch, number) in [
+        (wrong, 0, 0, 0, 2),
+        (full, whole - 1, 0, 0, 11),
+        (full, whole, words - 1, 0, 12),
+        (full, whole, words, 0, 27),
+        (tight, whole, words, room - 1, 9),
+        (tight, whole, words, 0, 9),
+    ] {
+        let (mut image, mut scratch) = (exact(&vec![0xA5; image]), exact(&vec![0xA5; scratch]));
+        let answer = relay(&mut image, &exact(&vec![0; marks]), &grid, &mut scratch);
+        assert_eq!(answer.map_err(gezdunar::Refusal::number), Err(number));
+        assert!(image.iter().chain(scratch.iter()).all(|&byte| byte == 0xA5));
     }
 }

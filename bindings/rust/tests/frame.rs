@@ -3,7 +3,7 @@
 mod common;
 
 use common::{block_samples, blocks, exact, largest, modes_and_rules, refused_grids, samples, shape, small, WIDTHS};
-use gezdunar::{decode_block_vec, read_window_vec, Bands, Frame, Grid, InterleaveMode, Refusal, Window};
+use gezdunar::{decode_block_vec, read_window_vec, Bands, EdgeRule, Frame, Grid, InterleaveMode, Refusal, Window};
 
 /// Writes the plain picture, the last block first and each block twice.
 fn written(grid: Grid) -> Frame {
@@ -125,4 +125,38 @@ fn a_skipped_block_keeps_its_bytes() {
         assert_eq!(frame.skip_block(row, column), Ok(()));
     }
     assert_eq!((frame.image(), frame.progress(), frame.finalize()), (&image[..], Ok(4), Ok(())));
+}
+
+/// Writes one of three blocks and skips another one of three, from a block on, up to another.
+fn some_blocks(frame: &mut Frame, from: usize, to: usize) {
+    let grid = *frame.grid();
+    let bands: Vec<u32> = (0..grid.bands).collect();
+    for (i, (row, column)) in blocks(&grid).into_iter().enumerate().take(to).skip(from) {
+        match i % 3 {
+            0 => frame
+                .encode_block(row, column, grid.block_shape(row, column), &block_samples(&grid, &bands, row, column))
+                .expect("an accepted block"),
+            1 => frame.skip_block(row, column).expect("a block of the grid"),
+            _ => {}
+        }
+    }
+}
+
+#[test]
+fn a_frame_is_relaid_while_it_is_written() {
+    for imode in InterleaveMode::ALL {
+        for nbpp in WIDTHS {
+            let tight = Grid::new(5, 7, 3, nbpp, imode, EdgeRule::Tight, 3, 2);
+            let full = Grid { edges: EdgeRule::Full, ..tight };
+            let (mut frame, mut from_the_start) =
+                (Frame::new(tight).expect("accepted"), Frame::new(full).expect("accepted"));
+            some_blocks(&mut frame, 0, 4);
+            assert_eq!(frame.relay(), Ok(()));
+            some_blocks(&mut frame, 4, 9);
+            some_blocks(&mut from_the_start, 0, 9);
+            assert_eq!(frame, from_the_start);
+            assert_eq!(frame.relay(), Err(Refusal::AlreadyFull));
+            assert_eq!(frame, from_the_start);
+        }
+    }
 }

@@ -7,7 +7,7 @@ use std::error::Error;
 const HEADER: &str = include_str!("../../../include/gezdunar.h");
 
 fn known() -> Vec<u32> {
-    (1..=24).chain([26, 99]).collect()
+    (1..=24).chain([26, 27, 99]).collect()
 }
 
 /// The C header's words for a number: the text of the name that the number has there.
@@ -25,7 +25,7 @@ fn every_number_has_its_own_refusal() {
         assert_eq!(refusal.number(), number);
         assert!(!matches!(refusal, Refusal::Unknown(_)), "{number} has no name");
     }
-    assert_eq!(known().into_iter().map(Refusal::from_number).collect::<HashSet<_>>().len(), 26);
+    assert_eq!(known().into_iter().map(Refusal::from_number).collect::<HashSet<_>>().len(), 27);
     assert_eq!(Refusal::from_number(0), None);
 }
 
@@ -66,7 +66,7 @@ fn beside_15_stands_the_block() {
 
 #[test]
 fn other_numbers_have_words_too() {
-    for number in [25, 27, 98, 100, u32::MAX] {
+    for number in [25, 28, 98, 100, u32::MAX] {
         let refusal = Refusal::from_number(number);
         assert_eq!(refusal, Some(Refusal::Unknown(number)));
         let text = refusal.map(|refusal| refusal.to_string()).unwrap_or_default();

@@ -92,10 +92,22 @@ pub enum Case {
 
 #[derive(Clone, Debug, PartialEq)]
 pub enum Call {
-    Write { row: u32, column: u32, shape: [u32; 3], data: Vec<u8> },
-    Skip { row: u32, column: u32 },
+    Write {
+        row: u32,
+        column: u32,
+        shape: [u32; 3],
+        data: Vec<u8>,
+    },
+    Skip {
+        row: u32,
+        column: u32,
+    },
     Progress,
     Finish,
+    /// With a scratch of so many bytes. Later calls are handed the grid that is then in force.
+    Relay {
+        scratch: u64,
+    },
 }
 
 /// A rectangle of the picture.
@@ -134,7 +146,7 @@ pub struct Pack {
 /// | read | bands, rows, columns of the answer | samples |
 /// | whole block | none | the part |
 /// | window | none | samples |
-/// | frame | number and two values a call | image, then mark words |
+/// | frame | number and two values a call | image, then mark words, then each scratch |
 /// | parse | IMDATOFF, two record lengths, code bits, code, bytes used | none |
 /// | rewrite, mask write | none | the table |
 /// | lookup | present, offset known, offset | none |
@@ -143,7 +155,8 @@ pub struct Pack {
 /// | subheader read | PVTYPE, PJUST, IC, ABPP, the grid's fields | IREP, ICAT |
 /// | subheader write | none | the three parts |
 ///
-/// In a frame the two values are the count for progress, and row and column for a finish with 15.
+/// In a frame the two values are the count for progress, row and column for a finish with 15, and for a re-lay whether
+/// the rule in force after it is full.
 /// PVTYPE, PJUST, IC and the edge rule are given by their place in `ALL`, IMODE by its letter. Words are
 /// big-endian. The samples, tables, words and parts are the lent outputs, the image and the mark words the
 /// lent buffers: whole, as the calls left them.
@@ -313,6 +326,7 @@ impl Call {
             Call::Skip { .. } => "skip",
             Call::Progress => "progress",
             Call::Finish => "finish",
+            Call::Relay { .. } => "re-lay",
         }
     }
 }

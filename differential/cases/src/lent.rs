@@ -18,6 +18,11 @@ pub struct Lent {
     pub no_start: bool,
 }
 
+/// A buffer of so many bytes, as it is lent.
+pub fn pattern(length: u64) -> Vec<u8> {
+    vec![PATTERN; length as usize]
+}
+
 impl Lent {
     /// What a case names; else what the call fills and no more.
     pub fn of(case: &Case) -> Lent {
@@ -34,7 +39,7 @@ impl Lent {
     }
 
     pub fn output(&self) -> Vec<u8> {
-        vec![PATTERN; self.output as usize]
+        pattern(self.output)
     }
 
     pub fn output_words(&self) -> Vec<u32> {
@@ -42,7 +47,7 @@ impl Lent {
     }
 
     pub fn image(&self) -> Vec<u8> {
-        vec![PATTERN; self.image as usize]
+        pattern(self.image)
     }
 
     pub fn marks(&self) -> Vec<u64> {
@@ -50,7 +55,7 @@ impl Lent {
     }
 
     pub fn parts(&self) -> [Vec<u8>; 3] {
-        self.parts.map(|length| vec![PATTERN; length as usize])
+        self.parts.map(pattern)
     }
 }
 

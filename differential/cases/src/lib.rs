@@ -24,7 +24,7 @@ pub use figures::{figures, Figure};
 pub use generate::{generate, Lengths, Size};
 pub use grid::{Edges, Grid, Mode, BLOCK_SIDE, WIDTHS};
 pub use large::large;
-pub use lent::Lent;
+pub use lent::{pattern, Lent};
 pub use outside::outside;
 pub use plans::{exhaustive, long_size, random_size, Plan};
 pub use run::{run, Domain};

@@ -21,6 +21,7 @@ pub fn outside() -> Vec<(&'static str, Cases)> {
         ("every byte written at up to 8 bits", Box::new(bytes_written())),
         ("every bit above NBPP of every sample of a block", Box::new(higher_bits())),
         ("every block written over other bytes", Box::new(over_other_bytes())),
+        ("every image laid anew", Box::new(relays())),
         ("every header of a table of one block", Box::new(tables())),
         ("every table of one block written", Box::new(written())),
         ("every block and band looked up", Box::new(lookups())),
@@ -125,7 +126,8 @@ fn short_calls(grid: Grid) -> Vec<Case> {
     let area = Area { top: 0, left: 0, rows: 1, columns: 1 };
     let table = vec![0, 0, 0, 0, 0, 4, 0, 0, 0, 0, 9];
     let write = Call::Write { row, column, shape: [1, 1, 1], data: vec![7] };
-    let calls = vec![write, Call::Skip { row, column }, Call::Progress, Call::Finish];
+    let relay = Call::Relay { scratch: 1 };
+    let calls = vec![write, Call::Skip { row, column }, Call::Progress, Call::Finish, relay];
     let marks = vec![0; grid.blocks().div_ceil(64) as usize];
     let frame = Box::new(Case::Frame { grid, calls });
     vec![
@@ -213,6 +215,38 @@ fn over_other_bytes() -> impl Iterator<Item = Case> {
             let calls = vec![write(high.clone()), Call::Progress, write(vec![0; high.len()]), write(high)];
             let case = Case::Frame { grid, calls };
             Case::Lent { lent: Lent { no_start: true, ..Lent::of(&case) }, case: Box::new(case) }
+        })
+    })
+}
+
+/// Other bytes laid anew, by the length of the scratch, between writes of two blocks.
+fn relays() -> impl Iterator<Item = Case> {
+    pairs(WIDTHS.into_iter(), Mode::ALL.into_iter()).flat_map(|(nbpp, mode)| {
+        pairs([1, 2, 5].into_iter(), [[4, 5], [3, 7], [6, 3]].into_iter()).flat_map(move |(bands, picture)| {
+            let grid = Grid::new(picture, bands, nbpp, mode, [3, 3]);
+            let exact = u64::from(bands) * u64::from(9 * nbpp).div_ceil(8);
+            let write = move |(row, column): (u32, u32)| {
+                let [rows, columns] = [(picture[0] - 3 * row).min(3), (picture[1] - 3 * column).min(3)];
+                let mut data = vec![0x96; (bands * rows * columns * nbpp.div_ceil(8)) as usize];
+                grid.clear_higher_bits(&mut data);
+                Call::Write { row, column, shape: [bands, rows, columns], data }
+            };
+            let last = (grid.nbpc - 1, grid.nbpr - 1);
+            [0, exact - 1, exact, exact + 1].into_iter().flat_map(move |scratch| {
+                [false, true].into_iter().map(move |no_start| {
+                    let (relay, short) = (Call::Relay { scratch }, Call::Relay { scratch: 0 });
+                    let calls = vec![
+                        write(last),
+                        Call::Skip { row: 0, column: 0 },
+                        relay,
+                        write((0, 0)),
+                        short,
+                        Call::Progress,
+                    ];
+                    let case = Case::Frame { grid, calls };
+                    Case::Lent { lent: Lent { no_start, ..Lent::of(&case) }, case: Box::new(case) }
+                })
+            })
         })
     })
 }

@@ -1,6 +1,6 @@
 //! The library's answer to a case, through its Rust crate and over lent buffers.
 
-use cases::{Answer, Area, Call, Case, Edges, Grid, Header, Lent, Mode, Pack, UNKNOWN};
+use cases::{pattern, Answer, Area, Call, Case, Edges, Grid, Header, Lent, Mode, Pack, UNKNOWN};
 use gezdunar::{Bands, EdgeRule, ImageDataMask, InterleaveMode, Refusal, Reordered, Shape, Window};
 
 use crate::subheader;
@@ -154,20 +154,34 @@ fn counts(answer: Reordered) -> Vec<u64> {
 fn frame(grid: &gezdunar::Grid, calls: &[Call], lent: &Lent) -> Answer {
     let (mut image, mut marks) = (lent.image(), lent.marks());
     let start = if lent.no_start { Ok(()) } else { gezdunar::start(&mut image, &mut marks, grid) };
-    let mut values = Vec::new();
+    let (mut grid, mut values, mut scratches) = (*grid, Vec::new(), Vec::new());
     for call in calls {
-        values.extend(match frame_call(grid, call, &mut image, &mut marks) {
-            Ok(count) => [0, count, 0],
-            Err(Refusal::UnmarkedBlock { row, column }) => [15, u64::from(row), u64::from(column)],
-            Err(refusal) => [u64::from(number(refusal)), 0, 0],
-        });
+        let answer = match call {
+            Call::Relay { scratch } => {
+                let mut scratch = pattern(*scratch);
+                let relaid = gezdunar::relay(&mut image, &marks, &grid, &mut scratch);
+                scratches.extend(scratch);
+                let number = relaid.map_or_else(number, |full| {
+                    grid = full;
+                    0
+                });
+                [u64::from(number), u64::from(grid.edges == EdgeRule::Full), 0]
+            }
+            call => match frame_call(&grid, call, &mut image, &mut marks) {
+                Ok(count) => [0, count, 0],
+                Err(Refusal::UnmarkedBlock { row, column }) => [15, u64::from(row), u64::from(column)],
+                Err(refusal) => [u64::from(number(refusal)), 0, 0],
+            },
+        };
+        values.extend(answer);
     }
     let mut bytes = image;
     bytes.extend(marks.into_iter().flat_map(u64::to_be_bytes));
+    bytes.extend(scratches);
     Answer { number: start.map_or_else(number, |()| 0), values, bytes }
 }
 
-/// One call; the count for progress.
+/// One call but a re-lay; the count for progress.
 fn frame_call(grid: &gezdunar::Grid, call: &Call, image: &mut [u8], marks: &mut [u64]) -> Result<u64, Refusal> {
     match call {
         Call::Write { row, column, shape, data } => {
@@ -178,6 +192,7 @@ fn frame_call(grid: &gezdunar::Grid, call: &Call, image: &mut [u8], marks: &mut 
         Call::Skip { row, column } => gezdunar::skip_block(image, marks, grid, *row, *column).map(|()| 0),
         Call::Progress => gezdunar::progress(marks, grid).map(|count| count as u64),
         Call::Finish => gezdunar::finalize(image, marks, grid).map(|()| 0),
+        Call::Relay { .. } => unreachable!("it changes the grid"),
     }
 }
 

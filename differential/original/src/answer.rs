@@ -106,7 +106,7 @@ fn apply(encoder: &mut Encoder, call: &Call) -> Result<(), Refusal> {
     match call {
         Call::Write { row, column, shape, data } => encoder.encode_block(*row, *column, data, *shape),
         Call::Skip { row, column } => encoder.skip_block(*row, *column),
-        Call::Progress | Call::Finish => Ok(()),
+        Call::Progress | Call::Finish | Call::Relay { .. } => Ok(()),
     }
 }
 
@@ -135,6 +135,7 @@ fn frame(grid: &Grid, calls: &[Call]) -> Result<Answer, Refusal> {
                 Ok(()) => [0; 3],
                 Err(refusal) => [u64::from(refusal.number()), 0, 0],
             },
+            Call::Relay { .. } => unreachable!("the original has no re-lay"),
             Call::Progress => [0, grid.blocks() - missing(grid, &calls[..i])?.len() as u64, 0],
             Call::Finish => match replay(grid, &calls[..i])?.finalize() {
                 Ok(_) => [0; 3],

@@ -12,4 +12,5 @@ mod pack;
 mod place;
 mod preview;
 mod reads;
+mod relay;
 mod subheader;

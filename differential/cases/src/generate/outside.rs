@@ -1,7 +1,8 @@
 //! Cases changed so that they may leave the compared domain: a field of the grid, an argument, the
-//! lengths of the lent buffers, a frame without a start.
+//! lengths of the lent buffers, a frame without a start, re-lays in it.
 
 use super::Size;
+use crate::model::layout;
 use crate::{Area, Call, Case, Grid, Header, Lent, Pack, Source};
 
 /// Most bytes and words of a frame's lent buffers, and with a long side.
@@ -13,7 +14,21 @@ pub fn changed(mut case: Case, from: &mut Source, size: &Size) -> Case {
     for _ in 0..from.below(3) {
         change(&mut case, from);
     }
-    lent(case, from, if size.long == 0 { MOST } else { MOST_LONG })
+    let most = if size.long == 0 { MOST } else { MOST_LONG };
+    relays(&mut case, from, most);
+    lent(case, from, most)
+}
+
+/// Up to two re-lays among a frame's calls.
+fn relays(case: &mut Case, from: &mut Source, most: u64) {
+    let Case::Frame { grid, calls } = case else {
+        return;
+    };
+    for _ in 0..from.below(3) {
+        let place = from.below(calls.len() as u64 + 1) as usize;
+        let exact = u64::try_from(layout::block_bytes(grid)).unwrap_or(most).min(most);
+        calls.insert(place, Call::Relay { scratch: length(from, exact) });
+    }
 }
 
 /// A number near another, or at a limit.

@@ -1,6 +1,7 @@
 //! The model's answer to a case.
 
 use super::{frame, mask, read, reorder, subheader};
+use crate::lent::pattern;
 use crate::{Answer, Call, Case, Edges, Grid, Header, Lent, Subheader};
 
 pub fn answer(case: &Case) -> Answer {
@@ -109,30 +110,38 @@ fn from_marks(grid: &Grid, marks: &[u64], lent: &Lent) -> Answer {
 fn frame_answer(grid: &Grid, calls: &[Call], lent: &Lent) -> Answer {
     let (mut image, mut marks) = (lent.image(), lent.marks());
     let number = if lent.no_start { 0 } else { frame::start(grid, &mut image, &mut marks) };
-    let mut values = Vec::new();
+    let (mut grid, mut values, mut scratches) = (*grid, Vec::new(), Vec::new());
     for call in calls {
         let answer = match call {
             Call::Write { row, column, shape, data } => {
                 let block = (*row, *column);
-                let number = frame::write(grid, &mut image, &mut marks, block, *shape, data);
+                let number = frame::write(&grid, &mut image, &mut marks, block, *shape, data);
                 [u64::from(number), 0, 0]
             }
             Call::Skip { row, column } => {
-                let number = frame::skip(grid, &image, &mut marks, (*row, *column));
+                let number = frame::skip(&grid, &image, &mut marks, (*row, *column));
                 [u64::from(number), 0, 0]
             }
             Call::Progress => {
-                let (number, count) = frame::progress(grid, &marks);
+                let (number, count) = frame::progress(&grid, &marks);
                 [u64::from(number), count, 0]
             }
             Call::Finish => {
-                let (number, row, column) = frame::finish(grid, &image, &marks);
+                let (number, row, column) = frame::finish(&grid, &image, &marks);
                 [u64::from(number), u64::from(row), u64::from(column)]
+            }
+            Call::Relay { scratch } => {
+                let mut scratch = pattern(*scratch);
+                let number;
+                (number, grid) = frame::relay(&grid, &mut image, &marks, &mut scratch);
+                scratches.extend(scratch);
+                [u64::from(number), u64::from(grid.edges == Edges::Full), 0]
             }
         };
         values.extend(answer);
     }
     let mut bytes = image;
     bytes.extend(marks.into_iter().flat_map(u64::to_be_bytes));
+    bytes.extend(scratches);
     Answer { number, values, bytes }
 }

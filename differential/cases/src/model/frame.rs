@@ -1,7 +1,7 @@
-//! Start, write, skip, progress and finish, on a lent image and lent mark words.
+//! Start, write, skip, progress, finish and re-lay, on a lent image and lent mark words.
 
 use super::{bits, layout, questions};
-use crate::Grid;
+use crate::{Edges, Grid};
 
 fn marked(marks: &[u64], i: u64) -> bool {
     marks[(i / 64) as usize] >> (i % 64) & 1 == 1
@@ -135,4 +135,43 @@ pub fn finish(g: &Grid, image: &[u8], marks: &[u64]) -> (u8, u32, u32) {
     }
     let missing = g.every_block().find(|&(row, column)| !marked(marks, layout::block_index(g, row, column)));
     missing.map_or((0, 0, 0), |(row, column)| (15, row, column))
+}
+
+/// The number, and the grid in force after it. Of another width than a byte multiple the whole image is cleared, and
+/// every sample of the picture put where full has it.
+pub fn relay(g: &Grid, image: &mut [u8], marks: &[u64], scratch: &mut [u8]) -> (u8, Grid) {
+    let number = buffers(g, image, marks);
+    if number != 0 {
+        return (number, *g);
+    }
+    if g.edges == Edges::Full {
+        return (27, *g);
+    }
+    let Some(scratch) = scratch.get_mut(..layout::block_bytes(g) as usize) else {
+        return (9, *g);
+    };
+    let full = Grid { edges: Edges::Full, ..*g };
+    if !layout::byte_multiple(g) {
+        let before = image.to_vec();
+        image[..layout::image_bytes(g) as usize].fill(0);
+        for block in g.every_block() {
+            every_sample(g, block, |b, r, c| {
+                let value = bits::get(&before, layout::sample_bit(g, block, b, r, c), u64::from(g.nbpp));
+                bits::put(image, layout::sample_bit(&full, block, b, r, c), u64::from(g.nbpp), value);
+            });
+        }
+    }
+    scratch.fill(0);
+    (0, full)
+}
+
+/// Each band, row and column of a block.
+fn every_sample(g: &Grid, (row, column): (u32, u32), mut each: impl FnMut(u64, u64, u64)) {
+    for b in 0..u64::from(g.bands) {
+        for r in 0..layout::actual_rows(g, row) {
+            for c in 0..layout::actual_columns(g, column) {
+                each(b, r, c);
+            }
+        }
+    }
 }

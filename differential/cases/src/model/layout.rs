@@ -1,4 +1,4 @@
-//! Where a sample lies. All but `image_bytes` take a grid that passes questions 1 to 4.
+//! Where a sample lies. All but `block_bytes` and `image_bytes` take a grid that passes questions 1 to 4.
 
 use crate::{Edges, Grid, Mode};
 
@@ -12,11 +12,16 @@ pub fn band_bytes(g: &Grid) -> u64 {
     (u64::from(g.nppbh) * u64::from(g.nppbv) * u64::from(g.nbpp)).div_ceil(8)
 }
 
-/// Takes any grid.
-pub fn image_bytes(g: &Grid) -> u128 {
+/// Bytes of a block in B, P and R. Takes any grid.
+pub fn block_bytes(g: &Grid) -> u128 {
     let [nppbh, nppbv, nbpp] = [g.nppbh, g.nppbv, g.nbpp].map(u128::from);
     let t = (nppbh * nppbv).saturating_mul(nbpp).div_ceil(8);
-    u128::from(g.blocks()).saturating_mul(u128::from(g.bands)).saturating_mul(t)
+    u128::from(g.bands).saturating_mul(t)
+}
+
+/// Takes any grid.
+pub fn image_bytes(g: &Grid) -> u128 {
+    u128::from(g.blocks()).saturating_mul(block_bytes(g))
 }
 
 pub fn block_index(g: &Grid, row: u32, column: u32) -> u64 {

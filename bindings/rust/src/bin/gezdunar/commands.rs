@@ -4,6 +4,7 @@ mod block;
 mod info;
 mod mask;
 mod pack;
+mod relay;
 mod subheader;
 mod window;
 
@@ -26,5 +27,12 @@ pub struct Command {
 }
 
 /// The commands, in the order of the help.
-pub const COMMANDS: [&Command; 6] =
-    [&info::COMMAND, &block::COMMAND, &window::COMMAND, &pack::COMMAND, &mask::COMMAND, &subheader::COMMAND];
+pub const COMMANDS: [&Command; 7] = [
+    &info::COMMAND,
+    &block::COMMAND,
+    &window::COMMAND,
+    &pack::COMMAND,
+    &relay::COMMAND,
+    &mask::COMMAND,
+    &subheader::COMMAND,
+];

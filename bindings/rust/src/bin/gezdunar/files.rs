@@ -26,3 +26,12 @@ pub fn room(bytes: u64) -> Result<Vec<u8>, Failure> {
     vector.try_reserve_exact(length).map_err(|_| fault())?;
     Ok(vector)
 }
+
+/// So many zeros.
+pub fn zeros<T: Clone + Default>(length: usize) -> Result<Vec<T>, Failure> {
+    let mut vector = Vec::new();
+    let room = vector.try_reserve_exact(length);
+    room.map_err(|_| Failure::File(format!("there is no memory for {length} zeros")))?;
+    vector.resize(length, T::default());
+    Ok(vector)
+}

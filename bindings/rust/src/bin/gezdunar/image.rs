@@ -5,6 +5,7 @@ use crate::failure::Failure;
 use crate::files;
 use crate::picture::Picture;
 use gezdunar::{InterleaveMode, Refusal};
+use std::ops::Range;
 use std::path::PathBuf;
 
 /// The options of an image.
@@ -45,14 +46,26 @@ impl Image {
         files::read(&self.path, self.offset, self.length.min(needed))
     }
 
+    /// The whole file, and where in it the image is.
+    pub fn read_file(&self) -> Result<(Vec<u8>, Range<usize>), Failure> {
+        let bytes = files::read(&self.path, 0, u64::MAX)?;
+        let inside = |place: u64| usize::try_from(place).map_or(bytes.len(), |place| place.min(bytes.len()));
+        let place = inside(self.offset)..inside(self.offset.saturating_add(self.length));
+        Ok((bytes, place))
+    }
+
+    /// How much of the image the file holds.
+    pub fn held(&self, picture: &Picture, held: usize) -> String {
+        let (path, offset, whole) = (self.path.display(), self.offset, picture.sizes.image_bytes);
+        format!("{path} holds {held} bytes of the image from byte {offset} on, of {whole} in all")
+    }
+
     /// A refusal of a read, with the facts that it was decided on.
     pub fn refused(&self, picture: &Picture, refusal: Refusal, held: usize, asked: &str) -> Failure {
         if refusal != Refusal::ImageEnds {
             return picture.refused(refusal, asked);
         }
-        let (path, offset, whole) = (self.path.display(), self.offset, picture.sizes.image_bytes);
-        let facts = format!("{asked}; {path} holds {held} bytes of the image from byte {offset} on, of {whole} in all");
-        Failure::Refused(refusal, facts)
+        Failure::Refused(refusal, format!("{asked}; {}", self.held(picture, held)))
     }
 }
 

@@ -39,6 +39,7 @@ pub fn question(number: u32) -> &'static str {
              and ABPP at most 99?"
         }
         26 => "Is every bit above NBPP zero in each sample?",
+        27 => "Is the edge rule still tight?",
         99 => "Is the mode B, P, R or S, and the edge rule T or F?",
         _ => "Not known to this tool.",
     }
