@@ -1,6 +1,6 @@
 -- `gezdunar::writes::relay_answer` meets its contract.
 -- Assumes nothing.
-use Rattle.std.proofs.Common.{refl, ◌∙◌}
+use Rattle.std.proofs.Common.{refl}
 use Rattle.common.specs.Questions.{outcome}
 use Rattle.common.proofs.Questions.{refused-by}
 use Rattle.refusals.proofs.Numbers.{number-some}
