@@ -9,8 +9,9 @@ use Rattle.refusals.specs.declared.Refusal.TheVariants.{BlockOutsideGrid, ImageE
 use Rattle.refusals.specs.declared.Refusal.TheVariants.{WindowOutsidePicture, ImageTooShort, MarksTooShort, OtherShape}
 use Rattle.refusals.specs.declared.Refusal.TheVariants.{DataLength, UnmarkedBlock, TableTooShort, RecordLength}
 use Rattle.refusals.specs.declared.Refusal.TheVariants.{PadCodeLength, TableEnds, PadCode, TableTooLarge, OffsetCount}
-use Rattle.refusals.specs.declared.Refusal.TheVariants.{SubheaderPart, NamedValue, SampleBits, AlreadyFull, NoMode}
+use Rattle.refusals.specs.declared.Refusal.TheVariants.{SubheaderPart, NamedValue, SampleBits, AlreadyFull, WidthTable, NoMode}
 use Rattle.refusals.specs.Refusals.{number_of}
+use Rattle.widths.specs.declared.Widths.{Widths}
 use Rattle.grid.specs.declared.Grid.{Grid}
 use Rattle.grid.specs.Check.{ask_grid}
 use Rattle.calls.specs.Orders.{ask_buffers, start_number, skip_number, progress_number, write_number}
@@ -43,6 +44,7 @@ alone SubheaderPart ne = refl
 alone NamedValue ne = refl
 alone SampleBits ne = refl
 alone AlreadyFull ne = refl
+alone WidthTable ne = refl
 alone NoMode ne = refl
 alone (UnmarkedBlock row column) ne = absurd (ne refl)
 
@@ -54,35 +56,35 @@ other n false h k e = h e
 accepted : ◌≡◌ {A = ℕ} 0 15 → ⊥
 accepted e = omega arith
 
-grid-other : (g : Grid) {rest : ℕ} → (rest ≡ 15 → ⊥) → ask_grid g rest ≡ 15 → ⊥
-grid-other g k = other 1 _ (λ e. omega arith) (other 2 _ (λ e. omega arith) (other 3 _ (λ e. omega arith) (other 4 _ (λ e. omega arith) k)))
+grid-other : (ws : Widths) (g : Grid) {rest : ℕ} → (rest ≡ 15 → ⊥) → ask_grid ws g rest ≡ 15 → ⊥
+grid-other ws g k = other 1 _ (λ e. omega arith) (other 2 _ (λ e. omega arith) (other 3 _ (λ e. omega arith) (other 4 _ (λ e. omega arith) k)))
 
-buffers-other : (g : Grid) (n m : ℕ) {rest : ℕ} → (rest ≡ 15 → ⊥) → ask_grid g (ask_buffers g n m rest) ≡ 15 → ⊥
-buffers-other g n m k = grid-other g (other 11 _ (λ e. omega arith) (other 12 _ (λ e. omega arith) k))
+buffers-other : (ws : Widths) (g : Grid) (n m : ℕ) {rest : ℕ} → (rest ≡ 15 → ⊥) → ask_grid ws g (ask_buffers g n m rest) ≡ 15 → ⊥
+buffers-other ws g n m k = grid-other ws g (other 11 _ (λ e. omega arith) (other 12 _ (λ e. omega arith) k))
 
-pub start-alone : (g : Grid) (n m : ℕ) (refusal : Refusal) → number_of refusal ≡ start_number g n m
+pub start-alone : (ws : Widths) (g : Grid) (n m : ℕ) (refusal : Refusal) → number_of refusal ≡ start_number ws g n m
     → refused_answer refusal ≡ number (number_of refusal)
 unfolding start_number
-start-alone g n m refusal e = alone refusal (λ z. buffers-other g n m accepted (sym e ∙ z))
+start-alone ws g n m refusal e = alone refusal (λ z. buffers-other ws g n m accepted (sym e ∙ z))
 
-pub progress-alone : (g : Grid) (m : ℕ) (refusal : Refusal) → number_of refusal ≡ progress_number g m
+pub progress-alone : (ws : Widths) (g : Grid) (m : ℕ) (refusal : Refusal) → number_of refusal ≡ progress_number ws g m
     → refused_answer refusal ≡ number (number_of refusal)
 unfolding progress_number
-progress-alone g m refusal e = alone refusal (λ z. grid-other g (other 12 _ (λ y. omega arith) accepted) (sym e ∙ z))
+progress-alone ws g m refusal e = alone refusal (λ z. grid-other ws g (other 12 _ (λ y. omega arith) accepted) (sym e ∙ z))
 
-pub skip-alone : (g : Grid) (n m row column : ℕ) (refusal : Refusal) → number_of refusal ≡ skip_number g n m row column
+pub skip-alone : (ws : Widths) (g : Grid) (n m row column : ℕ) (refusal : Refusal) → number_of refusal ≡ skip_number ws g n m row column
     → refused_answer refusal ≡ number (number_of refusal)
 unfolding skip_number
-skip-alone g n m row column refusal e =
-    alone refusal (λ z. buffers-other g n m (other 6 _ (λ y. omega arith) accepted) (sym e ∙ z))
+skip-alone ws g n m row column refusal e =
+    alone refusal (λ z. buffers-other ws g n m (other 6 _ (λ y. omega arith) accepted) (sym e ∙ z))
 
-pub write-alone : (g : Grid) (n m row column bands rows columns size : ℕ) (fit : Bool) (refusal : Refusal)
-    → number_of refusal ≡ write_number g n m row column bands rows columns size fit
+pub write-alone : (ws : Widths) (g : Grid) (n m row column bands rows columns size : ℕ) (fit : Bool) (refusal : Refusal)
+    → number_of refusal ≡ write_number ws g n m row column bands rows columns size fit
     → refused_answer refusal ≡ number (number_of refusal)
 unfolding write_number
-write-alone g n m row column bands rows columns size fit refusal e =
+write-alone ws g n m row column bands rows columns size fit refusal e =
     alone refusal
-    (λ z. buffers-other g n m
+    (λ z. buffers-other ws g n m
     (other 6 _ (λ y. omega arith)
     (other 13 _ (λ y. omega arith) (other 14 _ (λ y. omega arith) (other 26 _ (λ y. omega arith) accepted))))
     (sym e ∙ z))

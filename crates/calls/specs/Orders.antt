@@ -1,11 +1,12 @@
--- The order in which each call on an image asks its questions. Questions 1 to 4, 6 and 11 stand in grid, 8 and 9 in
--- layout, 12 in marks.
+-- The order in which each call on an image asks its questions. Questions 1, 3, 4, 6 and 11 stand in grid, 2, which is
+-- asked of the table that the call is handed, in widths, 8 and 9 in layout, 12 in marks.
 -- Assumes nothing.
 use Rattle.std.specs.Prelude.{ℕ, ◌+◌, ◌*◌, ◌/◌, ◌^◌, Bool, true, false, not, ◌||◌, List, [], ◌∷◌, ltb, leb, eqb, length}
 use Rattle.common.specs.Questions.{ask}
 use Rattle.common.specs.Tests.{every, all_below}
 use Rattle.bits.specs.Bits.{be_at}
 use Rattle.layout.specs.Bands.{Bands, band_count, q8, q9}
+use Rattle.widths.specs.declared.Widths.{Widths}
 use Rattle.grid.specs.declared.Grid.{Grid}
 use Rattle.grid.specs.declared.EdgeRule.{EdgeRule}
 use Rattle.grid.specs.declared.EdgeRule.TheVariants.{Tight, Full}
@@ -33,8 +34,8 @@ block_questions g n row column level bs m =
     (ask 8 (q8 g.bands bs)
     (ask 9 (q9 (band_count g.bands bs) (actual_rows g row) (actual_columns g column) (sample_bytes g) m) 0))))
 
-unfoldable pub block_number : Grid → ℕ → ℕ → ℕ → ℕ → Bands → ℕ → ℕ
-block_number g n row column level bs m = ask_grid g (block_questions g n row column level bs m)
+unfoldable pub block_number : Widths → Grid → ℕ → ℕ → ℕ → ℕ → Bands → ℕ → ℕ
+block_number ws g n row column level bs m = ask_grid ws g (block_questions g n row column level bs m)
 
 -- ---- the whole block
 
@@ -46,8 +47,8 @@ q7_whole g n row column = leb (whole_start g row column + whole_length g) n
 abbrev pub whole_questions : Grid → ℕ → ℕ → ℕ → ℕ
 whole_questions g n row column = ask 6 (q6 g row column) (ask 7 (q7_whole g n row column) 0)
 
-unfoldable pub whole_number : Grid → ℕ → ℕ → ℕ → ℕ
-whole_number g n row column = ask_grid g (whole_questions g n row column)
+unfoldable pub whole_number : Widths → Grid → ℕ → ℕ → ℕ → ℕ
+whole_number ws g n row column = ask_grid ws g (whole_questions g n row column)
 
 -- ---- the window
 
@@ -97,8 +98,8 @@ window_questions g n w m =
     (ask 8 (q8 g.bands w.bands)
     (ask 9 (q9 (band_count g.bands w.bands) w.rows w.columns (sample_bytes g) m) 0)))
 
-unfoldable pub window_number : Grid → ℕ → Window → ℕ → ℕ
-window_number g n w m = ask_grid g (window_questions g n w m)
+unfoldable pub window_number : Widths → Grid → ℕ → Window → ℕ → ℕ
+window_number ws g n w m = ask_grid ws g (window_questions g n w m)
 
 -- ---- the calls on a frame, for an image of n bytes and m mark words
 
@@ -107,8 +108,8 @@ abbrev pub ask_buffers : Grid → ℕ → ℕ → ℕ → ℕ
 ask_buffers g n m rest = ask 11 (q11 g n) (ask 12 (q12 (blocks g) m) rest)
 
 -- start; finish asks 15 of the marks after the same
-unfoldable pub start_number : Grid → ℕ → ℕ → ℕ
-start_number g n m = ask_grid g (ask_buffers g n m 0)
+unfoldable pub start_number : Widths → Grid → ℕ → ℕ → ℕ
+start_number ws g n m = ask_grid ws g (ask_buffers g n m 0)
 
 -- 13: is the shape bands, actual rows, actual columns
 unfoldable pub q13 : Grid → ℕ → ℕ → ℕ → ℕ → ℕ → Bool
@@ -125,9 +126,9 @@ q26 g dat =
     all_below (length dat / sample_bytes g) (λ k. ltb (be_at dat (k * sample_bytes g) (sample_bytes g)) (2 ^ g.nbpp))
 
 -- write: 11, 12, 6, 13, 14, 26, for data of `size` bytes whose samples fit or do not
-unfoldable pub write_number : Grid → ℕ → ℕ → ℕ → ℕ → ℕ → ℕ → ℕ → ℕ → Bool → ℕ
-write_number g n m row column bands rows columns size fit =
-    ask_grid g
+unfoldable pub write_number : Widths → Grid → ℕ → ℕ → ℕ → ℕ → ℕ → ℕ → ℕ → ℕ → Bool → ℕ
+write_number ws g n m row column bands rows columns size fit =
+    ask_grid ws g
     (ask_buffers g n m
     (ask 6 (q6 g row column)
     (ask 13 (q13 g row column bands rows columns)
@@ -135,12 +136,12 @@ write_number g n m row column bands rows columns size fit =
     (ask 26 fit 0)))))
 
 -- skip: 11, 12, 6
-unfoldable pub skip_number : Grid → ℕ → ℕ → ℕ → ℕ → ℕ
-skip_number g n m row column = ask_grid g (ask_buffers g n m (ask 6 (q6 g row column) 0))
+unfoldable pub skip_number : Widths → Grid → ℕ → ℕ → ℕ → ℕ → ℕ
+skip_number ws g n m row column = ask_grid ws g (ask_buffers g n m (ask 6 (q6 g row column) 0))
 
 -- progress: 12
-unfoldable pub progress_number : Grid → ℕ → ℕ
-progress_number g m = ask_grid g (ask 12 (q12 (blocks g) m) 0)
+unfoldable pub progress_number : Widths → Grid → ℕ → ℕ
+progress_number ws g m = ask_grid ws g (ask 12 (q12 (blocks g) m) 0)
 
 -- 27: is the edge rule still tight
 abbrev pub q27 : EdgeRule → Bool
@@ -148,6 +149,6 @@ q27 Tight = true
 q27 Full = false
 
 -- re-lay: 11, 12, 27, and 9 of the scratch, which has k bytes
-unfoldable pub relay_number : Grid → ℕ → ℕ → ℕ → ℕ
-relay_number g n m k =
-    ask_grid g (ask_buffers g n m (ask 27 (q27 g.edges) (ask 9 (leb (g.bands * band_bytes g) k) 0)))
+unfoldable pub relay_number : Widths → Grid → ℕ → ℕ → ℕ → ℕ
+relay_number ws g n m k =
+    ask_grid ws g (ask_buffers g n m (ask 27 (q27 g.edges) (ask 9 (leb (g.bands * band_bytes g) k) 0)))

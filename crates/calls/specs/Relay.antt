@@ -5,6 +5,7 @@ use Rattle.std.specs.Prelude.{ℕ, ◌*◌, Bool, true, false, List, length, rep
 use Rattle.common.specs.Questions.{outcome}
 use Rattle.common.specs.Over.{over}
 use Rattle.common.specs.Turns.{iter}
+use Rattle.widths.specs.declared.Widths.{Widths}
 use Rattle.grid.specs.declared.Grid.{Grid}
 use Rattle.grid.specs.Sizes.{band_bytes, byte_multiple}
 use Rattle.grid.specs.EdgeRules.{under_full}
@@ -36,9 +37,9 @@ pub record Relaid : Type 0 where
 
 -- re-lay: the grid in force becomes the one under full. The scratch is lent with bands × t bytes, which end as zeros; the
 -- marks are only measured. A refused re-lay changes nothing
-unfoldable pub relay : Grid → List ℕ → List ℕ → List ℕ → Relaid
-relay g image marks scratch =
-    outcome (relay_number g (length image) (length marks) (length scratch))
+unfoldable pub relay : Widths → Grid → List ℕ → List ℕ → List ℕ → Relaid
+relay ws g image marks scratch =
+    outcome (relay_number ws g (length image) (length marks) (length scratch))
     (record {
       number = 0;
       grid = under_full g;

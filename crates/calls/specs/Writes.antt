@@ -5,6 +5,7 @@ use Rattle.common.specs.Questions.{outcome}
 use Rattle.common.specs.Over.{over}
 use Rattle.common.specs.Turns.{iter}
 use Rattle.bits.specs.Bits.{put_bits, be_at}
+use Rattle.widths.specs.declared.Widths.{Widths}
 use Rattle.grid.specs.declared.Grid.{Grid}
 use Rattle.grid.specs.Sizes.{sample_bytes, band_bytes, blocks, image_bytes, block_index}
 use Rattle.grid.specs.Sizes.{actual_rows, actual_columns, byte_multiple}
@@ -40,9 +41,9 @@ abbrev pub unchanged : List ℕ → List ℕ → ℕ → FrameOut
 unchanged image marks n = frame_out (number n) image marks
 
 -- start clears the image and the words that hold the grid's marks
-unfoldable pub start : Grid → List ℕ → List ℕ → FrameOut
-start g image marks =
-    outcome (start_number g (length image) (length marks))
+unfoldable pub start : Widths → Grid → List ℕ → List ℕ → FrameOut
+start ws g image marks =
+    outcome (start_number ws g (length image) (length marks))
     (frame_out (number 0) (over image 0 (replicate (image_bytes g) 0))
     (over marks 0 (replicate (mark_words (blocks g)) 0)))
     (unchanged image marks)
@@ -84,23 +85,23 @@ abbrev pub store_block : Grid → ℕ → ℕ → List ℕ → List ℕ → List
 store_block g row column dat image = store_by (byte_multiple g) g row column dat image
 
 -- write: the block's samples stored and its mark set
-unfoldable pub write : Grid → List ℕ → List ℕ → ℕ → ℕ → ℕ → ℕ → ℕ → List ℕ → FrameOut
-write g image marks row column bands rows columns dat =
-    outcome (write_number g (length image) (length marks) row column bands rows columns (length dat) (q26 g dat))
+unfoldable pub write : Widths → Grid → List ℕ → List ℕ → ℕ → ℕ → ℕ → ℕ → ℕ → List ℕ → FrameOut
+write ws g image marks row column bands rows columns dat =
+    outcome (write_number ws g (length image) (length marks) row column bands rows columns (length dat) (q26 g dat))
     (frame_out (number 0) (store_block g row column dat image) (mark marks (block_index g row column)))
     (unchanged image marks)
 
 -- skip: the block's mark set, its bytes kept
-unfoldable pub skip : Grid → List ℕ → List ℕ → ℕ → ℕ → FrameOut
-skip g image marks row column =
-    outcome (skip_number g (length image) (length marks) row column)
+unfoldable pub skip : Widths → Grid → List ℕ → List ℕ → ℕ → ℕ → FrameOut
+skip ws g image marks row column =
+    outcome (skip_number ws g (length image) (length marks) row column)
     (frame_out (number 0) image (mark marks (block_index g row column)))
     (unchanged image marks)
 
 -- progress, which changes nothing: how many blocks are marked
-unfoldable pub progress : Grid → List ℕ → Answer
-progress g marks = progress_answer (progress_number g (length marks)) g (marked marks)
+unfoldable pub progress : Widths → Grid → List ℕ → Answer
+progress ws g marks = progress_answer (progress_number ws g (length marks)) g (marked marks)
 
 -- finish, which changes nothing: is every block marked, else the first that is not
-unfoldable pub finish : Grid → List ℕ → List ℕ → Answer
-finish g image marks = finish_answer (start_number g (length image) (length marks)) g (marked marks)
+unfoldable pub finish : Widths → Grid → List ℕ → List ℕ → Answer
+finish ws g image marks = finish_answer (start_number ws g (length image) (length marks)) g (marked marks)

@@ -5,6 +5,10 @@ use calls::Extent;
 use grid::{EdgeRule, Grid};
 use layout::InterleaveMode;
 use refusals::Refusal;
+use widths::Widths;
+
+// The table of widths that each call is handed.
+static STANDARD: Widths = Widths::STANDARD;
 
 // The rows and columns of the cube that a block has.
 #[derive(Clone, Copy)]
@@ -72,6 +76,7 @@ impl Cube {
             &mut self.image,
             &mut self.marks,
             grid,
+            &STANDARD,
             row,
             column,
             shape,
@@ -87,7 +92,7 @@ impl Cube {
             marks: [0; 1],
         };
         let grid = cube.grid();
-        writing::start(&mut cube.image, &mut cube.marks, grid)?;
+        writing::start(&mut cube.image, &mut cube.marks, grid, &STANDARD)?;
         cube.write_block(0, 0)?;
         cube.write_block(0, 1)?;
         cube.write_block(1, 1)?;
@@ -109,11 +114,20 @@ impl Cube {
         list: &[u32],
         out: &mut [u8],
     ) -> Result<Extent, Refusal> {
-        reading::decode_block(&self.image, self.grid(), row, column, 0, Some(list), out)
+        reading::decode_block(
+            &self.image,
+            self.grid(),
+            &STANDARD,
+            row,
+            column,
+            0,
+            Some(list),
+            out,
+        )
     }
 
     // Asks whether the frame is done.
     pub fn finalize(&self) -> Result<(), Refusal> {
-        writing::finalize(&self.image, &self.marks, self.grid())
+        writing::finalize(&self.image, &self.marks, self.grid(), &STANDARD)
     }
 }

@@ -4,5 +4,6 @@ pub mod Flags
 pub mod Questions
 pub mod Arith
 pub mod Over
+pub mod Tabulate
 pub mod Turns
 pub mod Loops

@@ -3,8 +3,9 @@
 use mathlib.Core.Path.{◌≡◌, refl}
 use Rattle.common.specs.Questions.{outcome}
 use Rattle.common.specs.Over.{over}
+use Rattle.common.specs.Lists.{tabulate}
 use Rattle.common.specs.Tests.{every, some, within, pick}
-use Rattle.grid.specs.Widths.{width_taken}
+use Rattle.widths.specs.Widths.{width_taken, width_bytes, standard, takes}
 use Rattle.grid.specs.Sizes.{band_bytes}
 use Rattle.grid.specs.Check.{block_side, q1, q3, q4}
 use Rattle.digits.specs.Digits.{are_digits, with_digits, digit_bytes}
@@ -16,9 +17,9 @@ use Rattle.subheader.specs.Subheader.{q24_write, q9_write, write_number, write_s
 use Rattle.figures.specs.Subheaders.{read_found, read_by_hand, write_found, write_by_hand}
 
 pub read-by_hand : read_found ≡ read_by_hand
-unfolding read_found read_subheader read_number q23 q24 parts_fit first_numbers third_numbers are_digits with_digits bytes_in same_bytes is_named value_of effective outcome every some within pick width_taken band_bytes block_side q1 q3 q4
+unfolding read_found read_subheader read_number q23 q24 parts_fit first_numbers third_numbers are_digits with_digits bytes_in same_bytes is_named value_of effective outcome every some within pick width_taken width_bytes standard takes tabulate band_bytes block_side q1 q3 q4
 read-by_hand = refl
 
 pub write-by_hand : write_found ≡ write_by_hand
-unfolding write_found write_subheader write_number q24_write q9_write written_side digit_bytes over read_subheader read_number q23 q24 parts_fit first_numbers third_numbers are_digits with_digits bytes_in same_bytes is_named value_of effective outcome every some within pick width_taken band_bytes block_side q1 q3 q4
+unfolding write_found write_subheader write_number q24_write q9_write written_side digit_bytes over read_subheader read_number q23 q24 parts_fit first_numbers third_numbers are_digits with_digits bytes_in same_bytes is_named value_of effective outcome every some within pick width_taken width_bytes standard takes tabulate band_bytes block_side q1 q3 q4
 write-by_hand = refl

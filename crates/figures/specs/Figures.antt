@@ -1,8 +1,10 @@
--- Document 01's figures to hold it against, k's last sample as document 02 has it, and m under both of its edge rules and laid anew:
--- what the definitions give, beside what the papers say.
+-- Document 01's figures to hold it against, k's last sample as document 02 has it, m under both of its edge rules and
+-- laid anew, and tables of widths loaded: what the definitions give, beside what the papers say.
 -- Assumes nothing.
-use Rattle.std.specs.Prelude.{ℕ, suc, ◌-◌, ◌*◌, ◌/◌, ◌%◌, ◌^◌, true, false, List, [], ◌∷◌, ◌++◌, take, drop, replicate}
+use Rattle.std.specs.Prelude.{ℕ, suc, ◌-◌, ◌*◌, ◌/◌, ◌%◌, ◌^◌, true, false}
+use Rattle.std.specs.Prelude.{List, [], ◌∷◌, ◌++◌, take, drop, set, replicate}
 use Rattle.bits.specs.Bits.{put_bits}
+use Rattle.widths.specs.Widths.{standard}
 use Rattle.grid.specs.declared.EdgeRule.{EdgeRule}
 use Rattle.grid.specs.declared.EdgeRule.TheVariants.{Tight, Full}
 use Rattle.grid.specs.declared.Grid.{Grid}
@@ -20,7 +22,9 @@ use Rattle.calls.specs.Orders.{Window}
 use Rattle.calls.specs.Writes.{start, write, progress, finish}
 use Rattle.mask.specs.Mask.{WrittenOut, marks_mask, to_bytes}
 use Rattle.figures.specs.Instance.{by_calls, by_plain_frame, by_hand}
-use Rattle.figures.specs.Relays.{edge, written_m, relaid_m, image_after, by_calls_m, by_plain_frame_m, by_hand_m, relay_of}
+use Rattle.figures.specs.Loadings.{constant, entry_changed, loaded_with}
+use Rattle.figures.specs.Relays.{edge, written_m, relaid_m, image_after, relay_of}
+use Rattle.figures.specs.Relays.{by_calls_m, by_plain_frame_m, by_hand_m}
 
 -- the figures' letters; `no-letter` has the largest sample of 12 bits, and the list of calls that is told by the calls
 -- and by the plain frame
@@ -44,7 +48,7 @@ corner mode = place (small mode) 1 1 0 0 0 / 8 ∷ place (small mode) 1 1 1 0 0 
 -- the number, the shape, the output
 unfoldable pub read_of : InterleaveMode → ℕ → ℕ → ℕ → Bands → List ℕ
 read_of mode n row column bands =
-    let r : Filled = block_read (small mode) (tabulate n (λ q. q)) row column 0 bands (0 ∷ 0 ∷ 0 ∷ 0 ∷ []) in
+    let r : Filled = block_read standard (small mode) (tabulate n (λ q. q)) row column 0 bands (0 ∷ 0 ∷ 0 ∷ 0 ∷ []) in
     r.shape.number ∷ r.shape.bands ∷ r.shape.rows ∷ r.shape.columns ∷ r.out
 
 abbrev pub every_band : Bands
@@ -74,31 +78,31 @@ image_with grid row column vs = laid grid row column 0 vs (replicate (image_byte
 -- the window's bytes
 unfoldable pub run_of : Grid → ℕ → ℕ → ℕ → ℕ → List ℕ → List ℕ
 run_of grid row column rows columns dat =
-    let s : FrameOut = start grid (replicate (image_bytes grid) 255) ((2 ^ 64 - 1) ∷ []) in
-    let w : FrameOut = write grid s.image s.marks row column 1 rows columns dat in
-    let p : Answer = progress grid w.marks in
-    let f : Answer = finish grid w.image w.marks in
+    let s : FrameOut = start standard grid (replicate (image_bytes grid) 255) ((2 ^ 64 - 1) ∷ []) in
+    let w : FrameOut = write standard grid s.image s.marks row column 1 rows columns dat in
+    let p : Answer = progress standard grid w.marks in
+    let f : Answer = finish standard grid w.image w.marks in
     let part : Window
     = record { row = 0; column = column * grid.nppbh; rows = 1; columns = columns; bands = every_band } in
-    let seen : Filled = window grid w.image part (replicate (columns * sample_bytes grid) 0) in
+    let seen : Filled = window standard grid w.image part (replicate (columns * sample_bytes grid) 0) in
     s.answer.number ∷ w.answer.number ∷ p.first ∷ f.number ∷ (w.image ++ seen.out)
 
 -- a write of block (row, column) on an image of ones that no start has cleared: its number and the image
 unfoldable pub write_over : Grid → ℕ → ℕ → ℕ → ℕ → List ℕ → List ℕ
 write_over grid row column rows columns dat =
-    let w : FrameOut = write grid (replicate (image_bytes grid) 255) (0 ∷ []) row column 1 rows columns dat in
+    let w : FrameOut = write standard grid (replicate (image_bytes grid) 255) (0 ∷ []) row column 1 rows columns dat in
     w.answer.number ∷ w.image
 
 -- a write of the block of a line on an image of ones and a mark word 5: its answer, the image and the marks
 unfoldable pub write_on : Grid → ℕ → List ℕ → List ℕ
 write_on grid columns dat =
-    let w : FrameOut = write grid (replicate (image_bytes grid) 255) (5 ∷ []) 0 0 1 1 columns dat in
+    let w : FrameOut = write standard grid (replicate (image_bytes grid) 255) (5 ∷ []) 0 0 1 1 columns dat in
     w.answer.number ∷ w.answer.first ∷ w.answer.second ∷ (w.image ++ w.marks)
 
 -- the table of a picture of two blocks in B, written to 18 bytes: the number and the bytes
 unfoldable pub mask_of : List ℕ → List ℕ
 mask_of offsets =
-    let r : WrittenOut = to_bytes (grid_of 1 2 1 8 B Tight 1 1) marks_mask offsets [] (replicate 18 0) in
+    let r : WrittenOut = to_bytes standard (grid_of 1 2 1 8 B Tight 1 1) marks_mask offsets [] (replicate 18 0) in
     r.answer.number ∷ r.out
 
 -- figure m under an edge rule, with the two bytes that the papers give: the places alone, a run of calls, and a write
@@ -166,6 +170,21 @@ relays =
     }
     ∷ []
 
+-- loading, document 02's term: the constant table; one that bars 12; zeros, which bar all; and refused ones: a byte
+-- short, a byte over, length 65, version 2, an entry for 17 bits, which are refused, and one of a byte for 12
+unfoldable pub loadings : List Figure
+loadings =
+    record { letter = no-letter; found = loaded_with 12 constant; paper = 0 ∷ 2 ∷ [] }
+    ∷ record { letter = no-letter; found = loaded_with 12 (entry_changed 12 0); paper = 0 ∷ 0 ∷ [] }
+    ∷ record { letter = no-letter; found = loaded_with 12 (0 ∷ 66 ∷ 1 ∷ replicate 65 0); paper = 0 ∷ 0 ∷ [] }
+    ∷ record { letter = no-letter; found = loaded_with 12 (take 67 constant); paper = 33 ∷ 0 ∷ [] }
+    ∷ record { letter = no-letter; found = loaded_with 12 (constant ++ (0 ∷ [])); paper = 33 ∷ 0 ∷ [] }
+    ∷ record { letter = no-letter; found = loaded_with 12 (set constant 1 65); paper = 33 ∷ 0 ∷ [] }
+    ∷ record { letter = no-letter; found = loaded_with 12 (set constant 2 2); paper = 33 ∷ 0 ∷ [] }
+    ∷ record { letter = no-letter; found = loaded_with 12 (entry_changed 17 3); paper = 33 ∷ 0 ∷ [] }
+    ∷ record { letter = no-letter; found = loaded_with 12 (entry_changed 12 1); paper = 33 ∷ 0 ∷ [] }
+    ∷ []
+
 unfoldable pub figures : List Figure
 figures =
     record { letter = fig-a; found = corner B; paper = 48 ∷ 56 ∷ [] }
@@ -227,4 +246,4 @@ figures =
           0 ∷ 0x00 ∷ 0x00 ∷ 0x00 ∷ 0x12 ∷ 0x00 ∷ 0x04 ∷ 0x00 ∷ 0x00 ∷ 0x00 ∷ 0x00
           ∷ 0x00 ∷ 0x00 ∷ 0x00 ∷ 0x00 ∷ 0xFF ∷ 0xFF ∷ 0xFF ∷ 0xFF ∷ [];
     }
-    ∷ (list_of_calls Tight ++ (list_of_calls Full ++ relays))))
+    ∷ (list_of_calls Tight ++ (list_of_calls Full ++ (relays ++ loadings)))))

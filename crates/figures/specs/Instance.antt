@@ -1,8 +1,10 @@
 -- A list of calls on one picture under either edge rule, what the calls tell of it and what the plain frame does.
 -- Assumes nothing.
-use Rattle.std.specs.Prelude.{ℕ, ◌-◌, ◌^◌, false, List, [], ◌∷◌, ◌++◌, take, replicate}
+use Rattle.std.specs.Prelude.{ℕ, ◌-◌, ◌^◌, false, List, [], ◌∷◌, ◌++◌, take, set, replicate}
 use Rattle.layout.specs.declared.InterleaveMode.TheVariants.{P}
 use Rattle.layout.specs.Bands.{bands_of}
+use Rattle.widths.specs.declared.Widths.{Widths}
+use Rattle.widths.specs.Widths.{standard, table_of}
 use Rattle.grid.specs.declared.EdgeRule.{EdgeRule}
 use Rattle.grid.specs.Check.{grid_of}
 use Rattle.calls.specs.declared.Answer.{Answer}
@@ -21,25 +23,31 @@ begun rule =
     record {
       n = 97;
       m = 1;
+      widths = standard;
       grid = grid_of 3 5 2 12 P rule 4 2;
       image = replicate 100 255;
       marks = (2 ^ 64 - 1) ∷ 7 ∷ [];
     }
 
--- block (0,0) written; (1,1) refused by 11 and by 13; written; refused by 26 for its last sample, and by 14 though its
--- sample does not fit either; (0,0) skipped; progress, and refused by 12; finish
+-- the constant table with 0 for 12 bits
+abbrev pub no_twelve : Widths
+no_twelve = table_of (set standard.entries 12 0)
+
+-- block (0,0) written; (1,1) refused by 11 and by 13; written; refused by 26 for its last sample, by 14 though its
+-- sample does not fit either, and by 2 with a table that bars 12; (0,0) skipped; progress, and refused by 12; finish
 abbrev pub asked : List Call
 asked =
-    write 1000 1000 0 0 2 2 4 (replicate 32 0x0B)
-    ∷ write 95 1000 1 1 2 1 1 (0 ∷ 1 ∷ 0 ∷ 2 ∷ [])
-    ∷ write 96 1 1 1 2 2 4 (0 ∷ 1 ∷ 0 ∷ 2 ∷ [])
-    ∷ write 96 1 1 1 2 1 1 (0x01 ∷ 0x23 ∷ 0x04 ∷ 0x56 ∷ [])
-    ∷ write 96 1 1 1 2 1 1 (0x07 ∷ 0x89 ∷ 0x10 ∷ 0x00 ∷ [])
-    ∷ write 96 1 1 1 2 1 1 (0xF1 ∷ 0x23 ∷ [])
-    ∷ skip 96 1 0 0
-    ∷ progress 1
-    ∷ progress 0
-    ∷ finish 96 2
+    write standard 1000 1000 0 0 2 2 4 (replicate 32 0x0B)
+    ∷ write standard 95 1000 1 1 2 1 1 (0 ∷ 1 ∷ 0 ∷ 2 ∷ [])
+    ∷ write standard 96 1 1 1 2 2 4 (0 ∷ 1 ∷ 0 ∷ 2 ∷ [])
+    ∷ write standard 96 1 1 1 2 1 1 (0x01 ∷ 0x23 ∷ 0x04 ∷ 0x56 ∷ [])
+    ∷ write standard 96 1 1 1 2 1 1 (0x07 ∷ 0x89 ∷ 0x10 ∷ 0x00 ∷ [])
+    ∷ write standard 96 1 1 1 2 1 1 (0xF1 ∷ 0x23 ∷ [])
+    ∷ write no_twelve 96 1 1 1 2 1 1 (0x00 ∷ 0x00 ∷ 0x00 ∷ 0x00 ∷ [])
+    ∷ skip standard 96 1 0 0
+    ∷ progress standard 1
+    ∷ progress standard 0
+    ∷ finish standard 96 2
     ∷ []
 
 -- bands 1 and 0, in this order, of rows 1 and 2 and columns 3 and 4
@@ -60,12 +68,12 @@ unfoldable pub by_calls : EdgeRule → List ℕ
 by_calls rule =
     let s : Start = begun rule in
     told (after s asked).answers
-    (window (in_force s asked) (take 96 (after s asked).state.image) part (replicate 17 9))
+    (window standard (in_force s asked) (take 96 (after s asked).state.image) part (replicate 17 9))
 
 unfoldable pub by_plain_frame : EdgeRule → List ℕ
 by_plain_frame rule =
     let s : Start = begun rule in
-    told (plain s asked).answers (frame_window (plain s asked).frame 96 part (replicate 17 9))
+    told (plain s asked).answers (frame_window standard (plain s asked).frame 96 part (replicate 17 9))
 
 -- worked out by hand from documents 01 and 02; it is the same under both rules
 abbrev pub by_hand : List ℕ
@@ -76,6 +84,7 @@ by_hand =
     ∷ 0 ∷ 0 ∷ 0
     ∷ 26 ∷ 0 ∷ 0
     ∷ 14 ∷ 0 ∷ 0
+    ∷ 2 ∷ 0 ∷ 0
     ∷ 0 ∷ 0 ∷ 0
     ∷ 0 ∷ 2 ∷ 0
     ∷ 12 ∷ 0 ∷ 0

@@ -1,5 +1,6 @@
 -- The figures of document 01.
 pub mod Instance
 pub mod Relays
+pub mod Loadings
 pub mod Figures
 pub mod Subheaders

@@ -2,6 +2,7 @@
 -- reader answers for them, and the writer for its answer.
 -- Assumes nothing.
 use Rattle.std.specs.Prelude.{ℕ, List, [], ◌∷◌, ◌++◌, replicate}
+use Rattle.widths.specs.Widths.{standard}
 use Rattle.grid.specs.declared.EdgeRule.TheVariants.{Tight}
 use Rattle.grid.specs.declared.Grid.{Grid}
 use Rattle.subheader.specs.Subheader.{PartsOut, ReadSubheader, read_subheader, write_subheader}
@@ -32,7 +33,7 @@ third_part =
     ++ (0x30 ∷ 0x38 ∷ [])
 
 abbrev pub the_read : ReadSubheader
-the_read = read_subheader first_part second_part third_part 1 Tight
+the_read = read_subheader standard first_part second_part third_part 1 Tight
 
 -- the grid's numbers, in the order of its fields
 abbrev pub numbers : Grid → List ℕ
@@ -55,7 +56,7 @@ read_by_hand =
 
 -- the writer's number and parts, on outputs of zeros of which the third has a byte more
 abbrev pub the_write : PartsOut
-the_write = write_subheader the_read.subheader (replicate 38 0) (replicate 2 0) (replicate 20 0)
+the_write = write_subheader standard the_read.subheader (replicate 38 0) (replicate 2 0) (replicate 20 0)
 
 unfoldable pub write_found : List ℕ
 write_found = (the_write.number ∷ []) ++ the_write.first ++ the_write.second ++ the_write.third

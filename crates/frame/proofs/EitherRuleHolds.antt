@@ -10,6 +10,7 @@ use Rattle.common.proofs.Questions.{outcome-map}
 use Rattle.common.proofs.Tests.{below_ext}
 use Rattle.common.proofs.Turns.{iter_ext}
 use Rattle.bits.specs.Bits.{put_bits}
+use Rattle.widths.specs.declared.Widths.{Widths}
 use Rattle.grid.specs.declared.EdgeRule.{EdgeRule}
 use Rattle.grid.specs.declared.Grid.{Grid}
 use Rattle.grid.specs.Sizes.{band_bytes, actual_rows, actual_columns, byte_multiple}
@@ -32,15 +33,15 @@ use Rattle.frame.proofs.Demand3Holds.{demand3}
 others : (c : Call) (cs : List Call) → has_relay (c ∷ cs) ≡ false
     → (has_relay (c ∷ []) ≡ false) × (has_relay cs ≡ false)
 unfolding has_relay
-others (write n m row column bands rows columns dat) cs h = (refl, h)
-others (skip n m row column) cs h = (refl, h)
-others (progress m) cs h = (refl, h)
-others (finish n m) cs h = (refl, h)
-others (relay n m scratch) cs h = (h, cc)
+others (write ws n m row column bands rows columns dat) cs h = (refl, h)
+others (skip ws n m row column) cs h = (refl, h)
+others (progress ws m) cs h = (refl, h)
+others (finish ws n m) cs h = (refl, h)
+others (relay ws n m scratch) cs h = (h, cc)
 
-not_relay : (n m : ℕ) (scratch : List ℕ) → has_relay (relay n m scratch ∷ []) ≡ false → ⊥
+not_relay : (ws : Widths) (n m : ℕ) (scratch : List ℕ) → has_relay (relay ws n m scratch ∷ []) ≡ false → ⊥
 unfolding has_relay
-not_relay n m scratch h = cc
+not_relay ws n m scratch h = cc
 
 -- ---- the plain frame
 
@@ -63,11 +64,11 @@ frame_called_under e r = record { answers = r.answers; frame = frame_under e r.f
 pub frame_step_under_rule : (e : EdgeRule) (c : Call) (f : Frame) → has_relay (c ∷ []) ≡ false
     → frame_step c (frame_under e f) ≡ frame_step_under e (frame_step c f)
 unfolding frame_step frame_write frame_skip frame_progress frame_finish start_number write_number skip_number progress_number fit_in_data written in_block number_in_data whole_in_data reached_count actual_rows actual_columns band_bytes q1 q3 q4 q6 q11 q13 q14
-frame_step_under_rule e (write n m row column bands rows columns dat) f h = outcome-map (frame_step_under e) _ _ _
-frame_step_under_rule e (skip n m row column) f h = outcome-map (frame_step_under e) _ _ _
-frame_step_under_rule e (progress m) f h = refl
-frame_step_under_rule e (finish n m) f h = refl
-frame_step_under_rule e (relay n m scratch) f h = absurd (not_relay n m scratch h)
+frame_step_under_rule e (write ws n m row column bands rows columns dat) f h = outcome-map (frame_step_under e) _ _ _
+frame_step_under_rule e (skip ws n m row column) f h = outcome-map (frame_step_under e) _ _ _
+frame_step_under_rule e (progress ws m) f h = refl
+frame_step_under_rule e (finish ws n m) f h = refl
+frame_step_under_rule e (relay ws n m scratch) f h = absurd (not_relay ws n m scratch h)
 
 frame-calls : (e : EdgeRule) (cs : List Call) (f : Frame) → has_relay cs ≡ false
     → frame_call_all cs (frame_under e f) ≡ frame_called_under e (frame_call_all cs f)
@@ -90,9 +91,10 @@ same-q7 e g n w =
     below_ext g.nbpc _ _ (λ row l. below_ext g.nbpr _ _ (λ column m.
     rw (rule_moves_no-block e g row column).end))
 
-same-window : (e : EdgeRule) (f : Frame) (n : ℕ) (w : Window) (out : List ℕ) → frame_window (frame_under e f) n w out ≡ frame_window f n w out
+same-window : (e : EdgeRule) (ws : Widths) (f : Frame) (n : ℕ) (w : Window) (out : List ℕ)
+    → frame_window ws (frame_under e f) n w out ≡ frame_window ws f n w out
 unfolding frame_window frame_window_by window_number frame_bytes window_band q1 q3 q4 q10 band_bytes
-same-window e f n w out = rw (same-q7 e f.grid (min n f.image_length) w)
+same-window e ws f n w out = rw (same-q7 e f.grid (min n f.image_length) w)
 
 -- ---- the calls at byte multiples
 
@@ -114,29 +116,29 @@ step_under e o = record { answer = o.answer; state = state_under e o.state }
 abbrev called_under : EdgeRule → Called → Called
 called_under e r = record { answers = r.answers; state = state_under e r.state }
 
-same_write : (e : EdgeRule) (g : Grid) (image marks : List ℕ) (row column bands rows columns : ℕ) (dat : List ℕ) → byte_multiple g ≡ true
-    → W.write (with_rule e g) image marks row column bands rows columns dat ≡ W.write g image marks row column bands rows columns dat
+same_write : (e : EdgeRule) (ws : Widths) (g : Grid) (image marks : List ℕ) (row column bands rows columns : ℕ) (dat : List ℕ) → byte_multiple g ≡ true
+    → W.write ws (with_rule e g) image marks row column bands rows columns dat ≡ W.write ws g image marks row column bands rows columns dat
 unfolding W.write write_number q26 q1 q3 q4 q6 q11 q13 q14 band_bytes actual_rows actual_columns
-same_write e g image marks row column bands rows columns dat h = rw (same_store e g row column dat image h)
+same_write e ws g image marks row column bands rows columns dat h = rw (same_store e g row column dat image h)
 
 same_step : (e : EdgeRule) (c : Call) (s : State) → has_relay (c ∷ []) ≡ false → byte_multiple s.grid ≡ true
     → step c (state_under e s) ≡ step_under e (step c s)
 unfolding step W.skip W.progress W.finish start_number skip_number progress_number q1 q3 q4 q6 q11 band_bytes
-same_step e (write n m row column bands rows columns dat) s o h =
-    rw (same_write e s.grid (take n s.image) (take m s.marks) row column bands rows columns dat h)
-same_step e (skip n m row column) s o h = refl
-same_step e (progress m) s o h = refl
-same_step e (finish n m) s o h = refl
-same_step e (relay n m scratch) s o h = absurd (not_relay n m scratch o)
+same_step e (write ws n m row column bands rows columns dat) s o h =
+    rw (same_write e ws s.grid (take n s.image) (take m s.marks) row column bands rows columns dat h)
+same_step e (skip ws n m row column) s o h = refl
+same_step e (progress ws m) s o h = refl
+same_step e (finish ws n m) s o h = refl
+same_step e (relay ws n m scratch) s o h = absurd (not_relay ws n m scratch o)
 
 -- no other call than a re-lay changes the grid
 same-grid : (c : Call) (s : State) → has_relay (c ∷ []) ≡ false → (step c s).state.grid ≡ s.grid
 unfolding step
-same-grid (write n m row column bands rows columns dat) s o = refl
-same-grid (skip n m row column) s o = refl
-same-grid (progress m) s o = refl
-same-grid (finish n m) s o = refl
-same-grid (relay n m scratch) s o = absurd (not_relay n m scratch o)
+same-grid (write ws n m row column bands rows columns dat) s o = refl
+same-grid (skip ws n m row column) s o = refl
+same-grid (progress ws m) s o = refl
+same-grid (finish ws n m) s o = refl
+same-grid (relay ws n m scratch) s o = absurd (not_relay ws n m scratch o)
 
 same-calls : (e : EdgeRule) (cs : List Call) (s : State) → has_relay cs ≡ false → byte_multiple s.grid ≡ true
     → call_all cs (state_under e s) ≡ called_under e (call_all cs s)
@@ -160,9 +162,9 @@ either_rule e s cs a o =
     let p = plain_under e s cs o in
     record {
       answers = k.answers ∙ ap (λ (r : FrameCalled). r.answers) p ∙ sym h.answers;
-      windows = λ n w out.
-          k.windows n w out ∙ ap (λ (r : FrameCalled). frame_window r.frame n w out) p
-          ∙ same-window e (plain s cs).frame n w out ∙ sym (h.windows n w out);
+      windows = λ ws n w out.
+          k.windows ws n w out ∙ ap (λ (r : FrameCalled). frame_window ws r.frame n w out) p
+          ∙ same-window e ws (plain s cs).frame n w out ∙ sym (h.windows ws n w out);
       buffers = λ w.
           let r = same-calls e cs (started s) o w in
           ap (λ (x : State). (call_all cs x).state) (started_under e s) ∙ ap (λ (x : Called). x.state) r;

@@ -1,7 +1,7 @@
 -- Question 26 of the plain frame is that of the calls, and what an accepted write tells of its data.
 -- Assumes nothing.
 use Prim.Native.Nat.{ℕ, ◌+◌, ◌*◌, ◌/◌, ◌%◌, ◌^◌, ◌<◌}
-use mathlib.Core.Path.{◌≡◌, refl, sym, ap, ◌∙◌, subst}
+use mathlib.Core.Path.{◌≡◌, sym, ap, ◌∙◌, subst}
 use mathlib.Core.Bool.{true}
 use mathlib.Core.List.{List}
 use native.Mathlib.Omega.{arith}
@@ -15,17 +15,17 @@ use Rattle.bits.specs.Values.{side_by_side}
 use Rattle.bits.proofs.Values.{values_ext, side-by-side}
 use Rattle.common.specs.Over.{over}
 use Rattle.common.specs.Tests.{pick}
-use Rattle.common.proofs.Questions.{outcome-yes, outcome-zero}
+use Rattle.common.proofs.Questions.{outcome-yes}
 use Rattle.layout.specs.Bands.{band_count, band_at}
 use Rattle.common.proofs.Tests.{both_yes, below_at, all-below}
+use Rattle.widths.specs.declared.Widths.{Widths}
 use Rattle.grid.specs.declared.Grid.{Grid}
 use Rattle.grid.specs.Sizes.{sample_bytes, actual_rows, actual_columns}
 use Rattle.grid.specs.Layout.{Block, Sample}
 use Rattle.grid.proofs.Accepted.{Facts, rows-pos, columns-pos}
 use Rattle.calls.specs.Orders.{q26, window_number}
-use Rattle.calls.specs.Answers.{Filled}
 use Rattle.calls.specs.Reads.{bytes_of, window_of}
-use Rattle.frame.specs.OwnWords.{block_window}
+use Rattle.frame.specs.OwnWords.{block_window, all_of}
 use Rattle.frame.specs.PlainFrame.{whole_in_data, number_in_data, fit_in_data}
 use Rattle.frame.proofs.PlainBytes.{whole_is}
 
@@ -85,15 +85,14 @@ module _ (g : Grid) (f : Facts g) (row column : ℕ) (block : Block g row column
       lt-ltb _ _ (subst (λ (n : ℕ). n < 2 ^ g.nbpp) (whole-at k l) (fit_at g row column dat t _ _ _ (sample-at k l)))))
 
   -- where a picture has the data's whole numbers in the block, an accepted window of the block gives the data's bytes
-  pub block-bytes : Bytes dat → (numbers : ℕ → ℕ → ℕ → ℕ)
+  pub block-bytes : Bytes dat → (ws : Widths) (numbers : ℕ → ℕ → ℕ → ℕ)
       → ((b r c : ℕ) → Sample g row column b r c → numbers b (row * g.nppbv + r) (column * g.nppbh + c) ≡ whole_in_data g row column dat b r c)
-      → (n : ℕ) (out : List ℕ) → (window_of g numbers n (block_window g row column) out).shape.number ≡ 0
-      → (window_of g numbers n (block_window g row column) out).out ≡ over out 0 dat
+      → (n : ℕ) (out : List ℕ) → window_number ws g n (block_window g row column) (length out) ≡ 0
+      → window_of ws g numbers n (block_window g row column) out ≡ all_of g row column (over out 0 dat)
   unfolding window_of bytes_of band_count band_at pick side_by_side
-  block-bytes bytes numbers same n out z =
-      ap (λ (x : Filled). x.out)
-      (outcome-yes _ _ (outcome-zero (window_number g n (block_window g row column) (length out)) _ _ (λ (x : Filled). x.shape.number) (λ k. refl) z))
-      ∙ ap (over out 0)
+  block-bytes bytes ws numbers same n out z =
+      outcome-yes _ _ z
+      ∙ ap (λ (bs : List ℕ). all_of g row column (over out 0 bs))
       (values_ext _ (side_by_side dat 0 (sample_bytes g)) (sample_bytes g) samples (λ k h.
       same _ _ _ (sample-at k h) ∙ whole-at k h ∙ ap (λ (i : ℕ). be_at dat i (sample_bytes g)) (sym (zero-add (k * sample_bytes g))))
       ∙ side-by-side dat 0 (sample_bytes g) samples bytes (omega (arith, e))

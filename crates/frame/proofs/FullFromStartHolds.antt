@@ -9,6 +9,7 @@ use lib.ListN.{take, drop, take-append-drop}
 use Rattle.common.specs.Questions.{outcome}
 use Rattle.common.specs.Tests.{pick}
 use Rattle.common.proofs.Tests.{pick_yes}
+use Rattle.widths.specs.declared.Widths.{Widths}
 use Rattle.grid.specs.declared.EdgeRule.TheVariants.{Full}
 use Rattle.grid.specs.declared.Grid.{Grid}
 use Rattle.grid.specs.Check.{q1, q3, q4, q11}
@@ -34,10 +35,10 @@ unfolding frame_relay outcome
 relay_full zero f = refl
 relay_full (suc k) f = refl
 
-relay_step : (n m : ℕ) (scratch : List ℕ) (f : Frame)
-    → frame_under Full (frame_step (relay n m scratch) f).frame ≡ frame_under Full f
+relay_step : (ws : Widths) (n m : ℕ) (scratch : List ℕ) (f : Frame)
+    → frame_under Full (frame_step (relay ws n m scratch) f).frame ≡ frame_under Full f
 unfolding frame_step
-relay_step n m scratch f = relay_full _ f
+relay_step ws n m scratch f = relay_full _ f
 
 -- after a call that is no re-lay, and then others
 after_call : (c : Call) (cs : List Call) (f : Frame) → has_relay (c ∷ []) ≡ false
@@ -50,18 +51,18 @@ frames : (cs : List Call) (f : Frame)
     → (frame_call_all (without_relays cs) (frame_under Full f)).frame ≡ frame_under Full (frame_call_all cs f).frame
 unfolding frame_call_all without_relays has_relay
 frames [] f = refl
-frames (write n m row column bands rows columns dat ∷ cs) f =
-    let c : Call = write n m row column bands rows columns dat in
+frames (write ws n m row column bands rows columns dat ∷ cs) f =
+    let c : Call = write ws n m row column bands rows columns dat in
     after_call c (without_relays cs) f refl ∙ frames cs (frame_step c f).frame
-frames (skip n m row column ∷ cs) f =
-    after_call (skip n m row column) (without_relays cs) f refl ∙ frames cs (frame_step (skip n m row column) f).frame
-frames (progress m ∷ cs) f =
-    after_call (progress m) (without_relays cs) f refl ∙ frames cs (frame_step (progress m) f).frame
-frames (finish n m ∷ cs) f =
-    after_call (finish n m) (without_relays cs) f refl ∙ frames cs (frame_step (finish n m) f).frame
-frames (relay n m scratch ∷ cs) f =
-    ap (λ (x : Frame). (frame_call_all (without_relays cs) x).frame) (sym (relay_step n m scratch f))
-    ∙ frames cs (frame_step (relay n m scratch) f).frame
+frames (skip ws n m row column ∷ cs) f =
+    after_call (skip ws n m row column) (without_relays cs) f refl ∙ frames cs (frame_step (skip ws n m row column) f).frame
+frames (progress ws m ∷ cs) f =
+    after_call (progress ws m) (without_relays cs) f refl ∙ frames cs (frame_step (progress ws m) f).frame
+frames (finish ws n m ∷ cs) f =
+    after_call (finish ws n m) (without_relays cs) f refl ∙ frames cs (frame_step (finish ws n m) f).frame
+frames (relay ws n m scratch ∷ cs) f =
+    ap (λ (x : Frame). (frame_call_all (without_relays cs) x).frame) (sym (relay_step ws n m scratch f))
+    ∙ frames cs (frame_step (relay ws n m scratch) f).frame
 
 -- ---- the buffers
 

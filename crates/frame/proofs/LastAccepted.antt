@@ -1,7 +1,7 @@
 -- The plain frame's numbers are those last accepted, and its reached blocks those named in accepted writes and skips.
 -- Assumes nothing.
 use Prim.Native.Nat.{ℕ, zero, suc, ◌+◌, ◌*◌}
-use mathlib.Core.Path.{◌≡◌, refl, sym, ap, ap₂, ◌∙◌, subst, subst₂}
+use mathlib.Core.Path.{◌≡◌, refl, sym, ap, ap₂, ◌∙◌, subst₂}
 use mathlib.Core.Bool.{Bool, true, false, ◌||◌}
 use mathlib.Core.List.{List, [], ◌∷◌}
 use native.Mathlib.Omega.{arith}
@@ -11,13 +11,16 @@ use lib.Dec.{eqb}
 use lib.ListN.{length}
 use Rattle.common.specs.Questions.{outcome}
 use Rattle.common.specs.Tests.{every, pick}
+use Rattle.widths.specs.declared.Widths.{Widths}
 use Rattle.grid.specs.declared.EdgeRule.TheVariants.{Full}
 use Rattle.grid.specs.declared.Grid.{Grid}
-use Rattle.grid.specs.Check.{Accepted}
+use Rattle.grid.specs.Check.{Accepted, q2}
 use Rattle.grid.specs.Sizes.{sample_bytes, actual_rows, actual_columns}
 use Rattle.grid.specs.Layout.{Block, Sample}
 use Rattle.grid.specs.EdgeRules.{under_full}
+use Rattle.grid.proofs.Accepted.{takes-width}
 use Rattle.grid.proofs.Runs.{accepted_rule, block_rule, sample_rule}
+use Rattle.calls.specs.Orders.{write_number}
 use Rattle.calls.proofs.Numbers.{write-facts, write_data, write-fit}
 use Rattle.frame.specs.Call.{Call, write, skip, progress, finish, relay}
 use Rattle.frame.specs.PlainFrame.{Frame, whole_in_data, number_in_data, fit_in_data, written, reach}
@@ -25,9 +28,10 @@ use Rattle.frame.specs.PlainFrame.{frame_write, frame_skip, frame_relay, frame_s
 use Rattle.frame.specs.OwnWords.{Last, nothing, these, accepts, data_after, named_after, last_data, named, value_in}
 use Rattle.frame.proofs.ImageNumbers.{written_same, written-other}
 
--- what an accepted write tells of its data
-pub record Taken (g : Grid) (row column : ℕ) (dat : List ℕ) : Type 0 where
+-- what an accepted write tells of its data and of the table that it was handed
+pub record Taken (g : Grid) (row column : ℕ) (ws : Widths) (dat : List ℕ) : Type 0 where
   pub enough : Accepted g
+  pub width : q2 ws g ≡ true
   pub block : Block g row column
   pub exact : length dat ≡ g.bands * actual_rows g row * actual_columns g column * sample_bytes g
   pub fit : fit_in_data g row column dat ≡ true
@@ -37,7 +41,8 @@ pub record Known (f : Frame) (last : ℕ → ℕ → Last) (seen : ℕ → ℕ �
   pub numbers : (row column b r c : ℕ) → Sample f.grid row column b r c
       → f.numbers b (row * f.grid.nppbv + r) (column * f.grid.nppbh + c)
       ≡ value_in f.grid row column b r c (last row column)
-  pub taken : (row column : ℕ) (dat : List ℕ) → last row column ≡ these dat → Taken f.grid row column dat
+  pub taken : (row column : ℕ) (ws : Widths) (dat : List ℕ) → last row column ≡ these ws dat
+      → Taken f.grid row column ws dat
   pub reached : (row column : ℕ) → f.reached row column ≡ seen row column
 
 -- ---- one call
@@ -65,34 +70,30 @@ reach-is : (y x row column : ℕ) (seen : ℕ → ℕ → Bool) (t : Bool) → s
 unfolding reach every
 reach-is y x row column seen t e = ap (λ (u : Bool). every (eqb row y ∷ eqb column x ∷ []) || u) e
 
-pick-last : {t : Bool} (dat : List ℕ) (last : Last) → t ≡ true → pick t (these dat) last ≡ these dat
+pick-last : {t : Bool} (given last : Last) → t ≡ true → pick t given last ≡ given
 unfolding pick
-pick-last dat last e = rw e
+pick-last given last e = rw e
 
-pick-kept : {t : Bool} (dat : List ℕ) (last : Last) → t ≡ false → pick t (these dat) last ≡ last
+pick-kept : {t : Bool} (given last : Last) → t ≡ false → pick t given last ≡ last
 unfolding pick
-pick-kept dat last e = rw e
+pick-kept given last e = rw e
 
-these-inv : (xs ys : List ℕ) → these xs ≡ these ys → xs ≡ ys
-these-inv xs ys e = ap (bytes_in) e
-  where
-    bytes_in : Last → List ℕ
-    bytes_in nothing = []
-    bytes_in (these dat) = dat
+these-inv : {ws vs : Widths} {xs ys : List ℕ} → these ws xs ≡ these vs ys → (ws ≡ vs) × (xs ≡ ys)
+these-inv e = (cc, cc)
 
 -- an accepted write: its own block has the data, any other what it had
-module _ (g : Grid) (y x : ℕ) (dat : List ℕ) (numbers : ℕ → ℕ → ℕ → ℕ) (row column b r c : ℕ)
+module _ (g : Grid) (y x : ℕ) (ws : Widths) (dat : List ℕ) (numbers : ℕ → ℕ → ℕ → ℕ) (row column b r c : ℕ)
     (s : Sample g row column b r c) (last : Last)
     (before : numbers b (row * g.nppbv + r) (column * g.nppbh + c) ≡ value_in g row column b r c last) where
   abbrev Agrees : Type 0
   Agrees =
       written g y x dat numbers b (row * g.nppbv + r) (column * g.nppbh + c)
-      ≡ value_in g row column b r c (pick (accepts 0 y x row column) (these dat) last)
+      ≡ value_in g row column b r c (pick (accepts 0 y x row column) (these ws dat) last)
 
   other : (row ≡ y → column ≡ x → ⊥) → Agrees
   other ne =
       written-other g y x dat numbers row column b r c s ne ∙ before
-      ∙ ap (value_in g row column b r c) (sym (pick-kept dat last (accepts-other y x row column ne)))
+      ∙ ap (value_in g row column b r c) (sym (pick-kept (these ws dat) last (accepts-other y x row column ne)))
 
   written_last : Agrees
   unfolding value_in
@@ -102,23 +103,24 @@ module _ (g : Grid) (y x : ℕ) (dat : List ℕ) (numbers : ℕ → ℕ → ℕ 
       go (yes p) (yes q) =
           ap₂ (λ (u v : ℕ). written g u v dat numbers b (row * g.nppbv + r) (column * g.nppbh + c)) (sym p) (sym q)
           ∙ written_same g row column dat numbers b r c s
-          ∙ ap (value_in g row column b r c) (sym (pick-last dat last (accepts-same y x row column p q)))
+          ∙ ap (value_in g row column b r c) (sym (pick-last (these ws dat) last (accepts-same y x row column p q)))
       go (yes p) (no n) = other (λ _ q. n q)
       go (no n) d = other (λ p _. n p)
 
-taken-last : (g : Grid) (y x : ℕ) (dat : List ℕ) → Taken g y x dat → (row column : ℕ) (last : Last)
-    → ((dat' : List ℕ) → last ≡ these dat' → Taken g row column dat')
-    → (dat' : List ℕ) → pick (accepts 0 y x row column) (these dat) last ≡ these dat' → Taken g row column dat'
-taken-last g y x dat t row column last before dat' e = go (ℕ_discrete row y) (ℕ_discrete column x)
+taken-last : (g : Grid) (y x : ℕ) (ws : Widths) (dat : List ℕ) → Taken g y x ws dat → (row column : ℕ) (last : Last)
+    → ((ws' : Widths) (dat' : List ℕ) → last ≡ these ws' dat' → Taken g row column ws' dat')
+    → (ws' : Widths) (dat' : List ℕ) → pick (accepts 0 y x row column) (these ws dat) last ≡ these ws' dat'
+    → Taken g row column ws' dat'
+taken-last g y x ws dat t row column last before ws' dat' e = go (ℕ_discrete row y) (ℕ_discrete column x)
   where
-    other : (row ≡ y → column ≡ x → ⊥) → Taken g row column dat'
-    other ne = before dat' (sym (pick-kept dat last (accepts-other y x row column ne)) ∙ e)
+    other : (row ≡ y → column ≡ x → ⊥) → Taken g row column ws' dat'
+    other ne = before ws' dat' (sym (pick-kept (these ws dat) last (accepts-other y x row column ne)) ∙ e)
 
-    go : Dec (row ≡ y) → Dec (column ≡ x) → Taken g row column dat'
+    go : Dec (row ≡ y) → Dec (column ≡ x) → Taken g row column ws' dat'
     go (yes p) (yes q) =
-        subst (λ (xs : List ℕ). Taken g row column xs)
-        (these-inv dat dat' (sym (pick-last dat last (accepts-same y x row column p q)) ∙ e))
-        (subst₂ (λ (u v : ℕ). Taken g u v dat) (sym p) (sym q) t)
+        let same = these-inv (sym (pick-last (these ws dat) last (accepts-same y x row column p q)) ∙ e) in
+        subst₂ (λ (vs : Widths) (xs : List ℕ). Taken g row column vs xs) same.0 same.1
+        (subst₂ (λ (u v : ℕ). Taken g u v ws dat) (sym p) (sym q) t)
     go (yes p) (no n) = other (λ _ q. n q)
     go (no n) d = other (λ p _. n p)
 
@@ -127,39 +129,47 @@ value_full : (g : Grid) (row column b r c : ℕ) (last : Last)
     → value_in g row column b r c last ≡ value_in (under_full g) row column b r c last
 unfolding value_in number_in_data whole_in_data actual_rows actual_columns
 value_full g row column b r c nothing = refl
-value_full g row column b r c (these dat) = refl
+value_full g row column b r c (these ws dat) = refl
 
-taken_full : (g : Grid) (row column : ℕ) (dat : List ℕ) → Taken g row column dat → Taken (under_full g) row column dat
+taken_full : (g : Grid) (row column : ℕ) (ws : Widths) (dat : List ℕ) → Taken g row column ws dat
+    → Taken (under_full g) row column ws dat
 unfolding fit_in_data whole_in_data actual_rows actual_columns
-taken_full g row column dat t =
+taken_full g row column ws dat t =
     record {
       enough = accepted_rule Full g t.enough;
+      width = t.width;
       block = block_rule Full g row column t.block;
       exact = t.exact;
       fit = t.fit;
     }
 
+-- the table of an accepted write takes the width
+write_width : (ws : Widths) (g : Grid) (n m row column bands rows columns size : ℕ) (fit : Bool)
+    → write_number ws g n m row column bands rows columns size fit ≡ 0 → q2 ws g ≡ true
+unfolding write_number
+write_width ws g n m row column bands rows columns size fit z = takes-width ws g _ z
+
 module _ (f : Frame) (last : ℕ → ℕ → Last) (seen : ℕ → ℕ → Bool) (k : Known f last seen) where
-  write_known : (n y x : ℕ) (dat : List ℕ) → (n ≡ 0 → Taken f.grid y x dat)
+  write_known : (n y x : ℕ) (ws : Widths) (dat : List ℕ) → (n ≡ 0 → Taken f.grid y x ws dat)
       → Known (frame_write n f y x dat).frame
-      (λ row column. pick (accepts (frame_write n f y x dat).answer.number y x row column) (these dat)
+      (λ row column. pick (accepts (frame_write n f y x dat).answer.number y x row column) (these ws dat)
       (last row column))
       (λ row column. accepts (frame_write n f y x dat).answer.number y x row column || seen row column)
   unfolding frame_write outcome
-  write_known zero y x dat t =
+  write_known zero y x ws dat t =
       record {
-        taken = λ row column. taken-last f.grid y x dat (t refl) row column (last row column) (k.taken row column);
-        numbers = λ row column b r c s. written_last f.grid y x dat f.numbers row column b r c s (last row column)
+        taken = λ row column. taken-last f.grid y x ws dat (t refl) row column (last row column) (k.taken row column);
+        numbers = λ row column b r c s. written_last f.grid y x ws dat f.numbers row column b r c s (last row column)
             (k.numbers row column b r c s);
         reached = λ row column. reach-is y x row column f.reached (seen row column) (k.reached row column);
       }
-  write_known (suc n) y x dat t =
+  write_known (suc n) y x ws dat t =
       record {
-        taken = λ row column dat' e. k.taken row column dat'
-            (sym (pick-kept dat (last row column) (accepts-refused n y x row column)) ∙ e);
+        taken = λ row column ws' dat' e. k.taken row column ws' dat'
+            (sym (pick-kept (these ws dat) (last row column) (accepts-refused n y x row column)) ∙ e);
         numbers = λ row column b r c s. k.numbers row column b r c s
             ∙ ap (value_in f.grid row column b r c)
-            (sym (pick-kept dat (last row column) (accepts-refused n y x row column)));
+            (sym (pick-kept (these ws dat) (last row column) (accepts-refused n y x row column)));
         reached = λ row column. k.reached row column
             ∙ ap (λ (t : Bool). t || seen row column) (sym (accepts-refused n y x row column));
       }
@@ -189,7 +199,7 @@ module _ (f : Frame) (last : ℕ → ℕ → Last) (seen : ℕ → ℕ → Bool)
         numbers = λ row column b r c s.
             k.numbers row column b r c (sample_rule f.grid.edges (under_full f.grid) row column b r c s)
             ∙ value_full f.grid row column b r c (last row column);
-        taken = λ row column dat e. taken_full f.grid row column dat (k.taken row column dat e);
+        taken = λ row column ws dat e. taken_full f.grid row column ws dat (k.taken row column ws dat e);
         reached = k.reached;
       }
   relay_known (suc n) = record { numbers = k.numbers; taken = k.taken; reached = k.reached }
@@ -199,19 +209,20 @@ module _ (f : Frame) (last : ℕ → ℕ → Last) (seen : ℕ → ℕ → Bool)
       (λ row column. data_after c (frame_step c f).answer.number row column (last row column))
       (λ row column. named_after c (frame_step c f).answer.number row column (seen row column))
   unfolding frame_step data_after named_after
-  call_known (write n m y x bands rows columns dat) =
-      write_known _ y x dat (λ z.
-      let a = write-facts f.grid _ _ y x bands rows columns (length dat) _ z in
+  call_known (write ws n m y x bands rows columns dat) =
+      write_known _ y x ws dat (λ z.
+      let a = write-facts ws f.grid _ _ y x bands rows columns (length dat) _ z in
       record {
         enough = a.0.accepted;
+        width = write_width ws f.grid _ _ y x bands rows columns (length dat) _ z;
         block = a.1;
-        exact = write_data f.grid _ _ y x bands rows columns (length dat) _ z;
-        fit = write-fit f.grid _ _ y x bands rows columns (length dat) _ z;
+        exact = write_data ws f.grid _ _ y x bands rows columns (length dat) _ z;
+        fit = write-fit ws f.grid _ _ y x bands rows columns (length dat) _ z;
       })
-  call_known (skip n m y x) = skip-known _ y x
-  call_known (progress m) = k
-  call_known (finish n m) = k
-  call_known (relay n m scratch) = relay_known _
+  call_known (skip ws n m y x) = skip-known _ y x
+  call_known (progress ws m) = k
+  call_known (finish ws n m) = k
+  call_known (relay ws n m scratch) = relay_known _
 
 -- ---- a list of calls
 

@@ -12,6 +12,7 @@ pub mod ImageNumbers
 pub mod MarksReached
 pub mod RelaidNumbers
 pub mod ListOfCalls
+pub mod Barred
 pub mod WindowNumbers
 pub mod Demand3Holds
 pub mod DeterminedHolds

@@ -79,6 +79,16 @@ unfolding pick
 full_of g₀ g true e = ap under_full e
 full_of g₀ g false e = ap under_full e
 
+-- what was lent comes back unchanged
+pub lent_back : (n m : ℕ) (s : State) → ◌≡◌ {A = State} s
+    (record { grid = s.grid; image = take n s.image ++ drop n s.image; marks = take m s.marks ++ drop m s.marks })
+lent_back n m s =
+    λ i. record {
+      grid = s.grid;
+      image = sym (take-append-drop n s.image) i;
+      marks = sym (take-append-drop m s.marks) i;
+    }
+
 -- ---- one call, where the grid in force is g and the lengths are those of the start
 
 module _ (g₀ g : Grid) (full : Bool) (grid : g ≡ pick full (under_full g₀) g₀) (image₀ marks₀ image marks : List ℕ)
@@ -110,19 +120,9 @@ module _ (g₀ g : Grid) (full : Bool) (grid : g ≡ pick full (under_full g₀)
   abbrev Ok : Step → FrameStep → Type 0
   Ok o fo = StepOk g₀ image₀ marks₀ full o fo
 
-  -- what was lent comes back unchanged
-  whole : (n m : ℕ) → ◌≡◌ {A = State} s
-      (record { grid = g; image = take n image ++ drop n image; marks = take m marks ++ drop m marks })
-  whole n m =
-      λ i. record {
-        grid = g;
-        image = sym (take-append-drop n image) i;
-        marks = sym (take-append-drop m marks) i;
-      }
-
   refused : (n m k : ℕ) → Ok (put_back n m s (frame_out (number k) (take n image) (take m marks)))
       (record { answer = number k; frame = f })
-  refused n m k = record { answer = refl; inv = subst (λ (x : State). Inv g₀ image₀ marks₀ full x f) (whole n m) same }
+  refused n m k = record { answer = refl; inv = subst (λ (x : State). Inv g₀ image₀ marks₀ full x f) (lent_back n m s) same }
 
   write_step : (k n m row column : ℕ) (dat : List ℕ)
       → (k ≡ 0 → Enough g (length (take n image)) (length (take m marks)) × Block g row column)
@@ -200,40 +200,40 @@ module _ (g₀ g : Grid) (full : Bool) (grid : g ≡ pick full (under_full g₀)
   step-at : (c : Call)
       → StepOk g₀ image₀ marks₀ (relaid_after c (step c s).answer.number full) (step c s) (frame_step c f)
   unfolding step frame_step relaid_after W.write W.skip W.progress W.finish L.relay
-  step-at (write n m row column bands rows columns dat) =
-      subst₂ (λ (x y : ℕ). Ok (step (write n m row column bands rows columns dat) s)
-      (frame_write (write_number g x y row column bands rows columns (length dat) (fit_in_data g row column dat)) f row column dat))
+  step-at (write ws n m row column bands rows columns dat) =
+      subst₂ (λ (x y : ℕ). Ok (step (write ws n m row column bands rows columns dat) s)
+      (frame_write (write_number ws g x y row column bands rows columns (length dat) (fit_in_data g row column dat)) f row column dat))
       (bytes-lent n) (words-lent m)
-      (subst (λ (k : ℕ). Ok (step (write n m row column bands rows columns dat) s) (frame_write k f row column dat))
-      (write_same g _ _ row column bands rows columns (length dat) _ _ (λ z.
-      let a = write-facts g _ _ row column bands rows columns (length dat) true z in
-      fit_is g (facts g a.0.accepted) row column a.1 dat (write_data g _ _ row column bands rows columns (length dat) true z)))
-      (write_step _ n m row column dat (write-facts g _ _ row column bands rows columns (length dat) _)
-      (write_data g _ _ row column bands rows columns (length dat) _)))
-  step-at (skip n m row column) =
-      subst₂ (λ (x y : ℕ). Ok (step (skip n m row column) s) (frame_skip (skip_number g x y row column) f row column))
+      (subst (λ (k : ℕ). Ok (step (write ws n m row column bands rows columns dat) s) (frame_write k f row column dat))
+      (write_same ws g _ _ row column bands rows columns (length dat) _ _ (λ z.
+      let a = write-facts ws g _ _ row column bands rows columns (length dat) true z in
+      fit_is g (facts g a.0.accepted) row column a.1 dat (write_data ws g _ _ row column bands rows columns (length dat) true z)))
+      (write_step _ n m row column dat (write-facts ws g _ _ row column bands rows columns (length dat) _)
+      (write_data ws g _ _ row column bands rows columns (length dat) _)))
+  step-at (skip ws n m row column) =
+      subst₂ (λ (x y : ℕ). Ok (step (skip ws n m row column) s) (frame_skip (skip_number ws g x y row column) f row column))
       (bytes-lent n) (words-lent m)
-      (skip_step _ n m row column (skip-facts g _ _ row column))
-  step-at (progress m) =
+      (skip_step _ n m row column (skip-facts ws g _ _ row column))
+  step-at (progress ws m) =
       record {
         answer = progress-is _ f (marked (take m marks))
-            (λ e. lent-marks g marks₀ marks seen reached m (progress-facts g _ e))
-            ∙ ap (λ (y : ℕ). frame_progress (progress_number g y) f) (words-lent m);
+            (λ e. lent-marks g marks₀ marks seen reached m (progress-facts ws g _ e))
+            ∙ ap (λ (y : ℕ). frame_progress (progress_number ws g y) f) (words-lent m);
         inv = same;
       }
-  step-at (finish n m) =
+  step-at (finish ws n m) =
       record {
         answer = finish-is _ f (marked (take m marks))
-            (λ e. lent-marks g marks₀ marks seen reached m (start-facts g _ _ e).words)
-            ∙ ap₂ (λ (x y : ℕ). frame_finish (start_number g x y) f) (bytes-lent n) (words-lent m);
+            (λ e. lent-marks g marks₀ marks seen reached m (start-facts ws g _ _ e).words)
+            ∙ ap₂ (λ (x y : ℕ). frame_finish (start_number ws g x y) f) (bytes-lent n) (words-lent m);
         inv = same;
       }
-  step-at (relay n m scratch) =
+  step-at (relay ws n m scratch) =
       subst₂ (λ (x y : ℕ). StepOk g₀ image₀ marks₀
-      (relaid_after (relay n m scratch) (step (relay n m scratch) s).answer.number full)
-      (step (relay n m scratch) s) (frame_relay (relay_number g x y (length scratch)) f))
+      (relaid_after (relay ws n m scratch) (step (relay ws n m scratch) s).answer.number full)
+      (step (relay ws n m scratch) s) (frame_relay (relay_number ws g x y (length scratch)) f))
       (bytes-lent n) (words-lent m)
-      (relay_step _ n m scratch (relay-facts g _ _ (length scratch)))
+      (relay_step _ n m scratch (relay-facts ws g _ _ (length scratch)))
 
 -- ---- any call
 
@@ -291,7 +291,7 @@ pub start_ok : (s : Start) → Accepts s
 unfolding started start frame0 pick
 start_ok s e =
     let g : Grid = s.grid in
-    let a = start-facts g _ _ e in
+    let a = start-facts s.widths g _ _ e in
     let w : ℕ = mark_words (blocks g) in
     rw (outcome-yes _ (unchanged (take s.n s.image) (take s.m s.marks)) e)
     (record {

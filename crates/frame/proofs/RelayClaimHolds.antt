@@ -39,8 +39,8 @@ sample_kept g image fits row column b r c s =
 
 pub relay_claim : RelayClaim
 unfolding relay
-relay_claim g image marks scratch e =
-    let a = relay-facts g _ _ _ e in
+relay_claim ws g image marks scratch e =
+    let a = relay-facts ws g _ _ _ e in
     let same : image_bytes (under_full g) ≡ image_bytes g = bytes_rule Full g in
     let fits : image_bytes (under_full g) ≤ length image = omega (arith, same, a.bytes) in
     let f : Facts g = facts g a.accepted in

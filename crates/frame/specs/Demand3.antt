@@ -1,8 +1,10 @@
 -- Demand 3 as one statement about a whole list of calls after an accepted start.
 -- Assumes nothing.
-use Rattle.std.specs.Prelude.{ℕ, suc, ◌+◌, ◌-◌, ◌*◌, ◌≤◌, ◌<◌, ◌≡◌, List, length, take, drop}
+use Rattle.std.specs.Prelude.{ℕ, suc, ◌+◌, ◌-◌, ◌*◌, ◌≤◌, ◌<◌, ◌≡◌, false, List, length, take, drop}
 use Rattle.common.specs.Tests.{pick}
 use Rattle.bits.specs.Bits.{bit_of, bit_at}
+use Rattle.widths.specs.declared.Widths.{Widths}
+use Rattle.widths.specs.Widths.{takes}
 use Rattle.grid.specs.declared.Grid.{Grid}
 use Rattle.grid.specs.Sizes.{sample_bytes, blocks, image_bytes, block_index}
 use Rattle.grid.specs.Layout.{place, Block, SampleBit}
@@ -12,8 +14,9 @@ use Rattle.layout.specs.Bands.{band_count}
 use Rattle.calls.specs.Answers.{Filled}
 use Rattle.calls.specs.Orders.{Window}
 use Rattle.calls.specs.Reads.{window}
-use Rattle.frame.specs.Call.{Call}
-use Rattle.frame.specs.Calls.{State, Start, Accepts, after, in_force, is_relaid}
+use Rattle.calls.specs.Writes.{number}
+use Rattle.frame.specs.Call.{Call, widths_in}
+use Rattle.frame.specs.Calls.{State, Start, Accepts, step, after, in_force, is_relaid}
 use Rattle.frame.specs.PlainFrame.{Frame, FrameCalled, frame0, frame_call_all, frame_window}
 
 -- the plain frame that is fed the same: the starting grid, the buffers' lengths and the calls
@@ -67,22 +70,25 @@ pub record Holds (s : Start) (cs : List Call) : Type 0 where
   pub marked-reached : (row column : ℕ) → Block (in_force s cs) row column
       → marked (after s cs).state.marks (block_index (in_force s cs) row column)
       ≡ (plain s cs).frame.reached row column
-  -- a window on the image, or on its first n bytes, is refused as the plain frame refuses it, and an accepted one gives
-  -- the plain frame's numbers
-  pub windows : (n : ℕ) (w : Window) (out : List ℕ)
-      → window (in_force s cs) (take n (after s cs).state.image) w out ≡ frame_window (plain s cs).frame n w out
+  -- a call whose table bars the width is refused with 2 and changes nothing
+  pub barred : (c : Call) → takes (widths_in c) s.grid.nbpp ≡ false
+      → step c (after s cs).state ≡ record { answer = number 2; state = (after s cs).state }
+  -- a window with any table, on the image or on its first n bytes, is refused as the plain frame refuses it, and an
+  -- accepted one gives the plain frame's numbers
+  pub windows : (ws : Widths) (n : ℕ) (w : Window) (out : List ℕ)
+      → window ws (in_force s cs) (take n (after s cs).state.image) w out ≡ frame_window ws (plain s cs).frame n w out
   pub numbers : HoldsNumbers (in_force s cs) (after s cs).state.image (plain s cs).frame
   pub surplus : KeepsSurplus (in_force s cs) s (after s cs).state
   -- two images from such lists with the same picture and sample values give the same answer and bytes to any window
-  -- asked alike of both, each with any part of its buffer's surplus
+  -- asked alike of both, with one table, each with any part of its buffer's surplus
   pub alike : (t : Start) (cs' : List Call) → Accepts t
       → SamePicture (in_force s cs) (in_force t cs')
       → SameNumbers (in_force s cs) (plain s cs).frame (plain t cs').frame
       → (n n' : ℕ) → image_bytes (in_force s cs) ≤ n → image_bytes (in_force t cs') ≤ n'
-      → (w : Window) (out out' : List ℕ) → length out ≡ length out'
+      → (ws : Widths) (w : Window) (out out' : List ℕ) → length out ≡ length out'
       → Alike (band_count (in_force s cs).bands w.bands * w.rows * w.columns * sample_bytes (in_force s cs))
-      (window (in_force s cs) (take n (after s cs).state.image) w out)
-      (window (in_force t cs') (take n' (after t cs').state.image) w out')
+      (window ws (in_force s cs) (take n (after s cs).state.image) w out)
+      (window ws (in_force t cs') (take n' (after t cs').state.image) w out')
 
 -- for every accepted start and list of calls
 abbrev pub Demand3 : Type 0

@@ -2,6 +2,7 @@
 -- byte multiples, and no call tells of that but a re-lay, which asks for the rule.
 -- Assumes nothing.
 use Rattle.std.specs.Prelude.{ℕ, ◌≡◌, true, false, List, take}
+use Rattle.widths.specs.declared.Widths.{Widths}
 use Rattle.grid.specs.declared.EdgeRule.{EdgeRule}
 use Rattle.grid.specs.Sizes.{byte_multiple}
 use Rattle.grid.specs.EdgeRules.{with_rule}
@@ -13,7 +14,7 @@ use Rattle.frame.specs.Calls.{State, Start, Accepts, after, in_force, has_relay}
 -- a start and a state under a rule
 abbrev pub start_under : EdgeRule → Start → Start
 start_under e s =
-    record { n = s.n; m = s.m; grid = with_rule e s.grid; image = s.image; marks = s.marks }
+    record { n = s.n; m = s.m; widths = s.widths; grid = with_rule e s.grid; image = s.image; marks = s.marks }
 
 abbrev pub state_under : EdgeRule → State → State
 state_under e s = record { grid = with_rule e s.grid; image = s.image; marks = s.marks }
@@ -21,10 +22,10 @@ state_under e s = record { grid = with_rule e s.grid; image = s.image; marks = s
 pub record SameUnder (e : EdgeRule) (s : Start) (cs : List Call) : Type 0 where
   -- each call answers the same
   pub answers : (after (start_under e s) cs).answers ≡ (after s cs).answers
-  -- each window on the image, or on its first n bytes, is refused alike or gives the same bytes
-  pub windows : (n : ℕ) (w : Window) (out : List ℕ)
-      → window (in_force (start_under e s) cs) (take n (after (start_under e s) cs).state.image) w out
-      ≡ window (in_force s cs) (take n (after s cs).state.image) w out
+  -- each window with any table, on the image or on its first n bytes, is refused alike or gives the same bytes
+  pub windows : (ws : Widths) (n : ℕ) (w : Window) (out : List ℕ)
+      → window ws (in_force (start_under e s) cs) (take n (after (start_under e s) cs).state.image) w out
+      ≡ window ws (in_force s cs) (take n (after s cs).state.image) w out
   -- at byte multiples image and marks are the same
   pub buffers : byte_multiple s.grid ≡ true → (after (start_under e s) cs).state ≡ state_under e (after s cs).state
 

@@ -9,12 +9,12 @@ use Rattle.frame.specs.EitherRule.{start_under}
 -- the other calls of a list
 unfoldable pub without_relays : List Call → List Call
 without_relays [] = []
-without_relays (write n m row column bands rows columns dat ∷ cs) =
-    write n m row column bands rows columns dat ∷ without_relays cs
-without_relays (skip n m row column ∷ cs) = skip n m row column ∷ without_relays cs
-without_relays (progress m ∷ cs) = progress m ∷ without_relays cs
-without_relays (finish n m ∷ cs) = finish n m ∷ without_relays cs
-without_relays (relay n m scratch ∷ cs) = without_relays cs
+without_relays (write ws n m row column bands rows columns dat ∷ cs) =
+    write ws n m row column bands rows columns dat ∷ without_relays cs
+without_relays (skip ws n m row column ∷ cs) = skip ws n m row column ∷ without_relays cs
+without_relays (progress ws m ∷ cs) = progress ws m ∷ without_relays cs
+without_relays (finish ws n m ∷ cs) = finish ws n m ∷ without_relays cs
+without_relays (relay ws n m scratch ∷ cs) = without_relays cs
 
 -- for every accepted start and list of calls: the grid, every byte of the image, surplus included, and every mark word;
 -- so every window too

@@ -4,6 +4,7 @@
 use Rattle.std.specs.Prelude.{ℕ, zero, suc, ◌+◌, ◌-◌, ◌*◌, ◌/◌, ◌%◌, ◌^◌, min, Bool, false, ◌||◌, List, [], ◌∷◌, ◌++◌, ltb, leb, eqb, length, take, drop}
 use Rattle.common.specs.Questions.{outcome}
 use Rattle.common.specs.Tests.{every, pick, all_below}
+use Rattle.widths.specs.declared.Widths.{Widths}
 use Rattle.grid.specs.declared.Grid.{Grid}
 use Rattle.grid.specs.Sizes.{sample_bytes, actual_rows, actual_columns}
 use Rattle.grid.specs.EdgeRules.{under_full}
@@ -161,24 +162,24 @@ frame_relay n f = outcome n (relaid_step f) (refused_step f)
 
 -- ---- the calls
 
--- a call is asked of the lengths that it lends; progress and question 15 look at the reached blocks
+-- a call is asked of its table and of the lengths that it lends; progress and question 15 look at the reached blocks
 unfoldable pub frame_step : Call → Frame → FrameStep
-frame_step (write n m row column bands rows columns dat) f =
+frame_step (write ws n m row column bands rows columns dat) f =
     frame_write
-    (write_number f.grid (min n f.image_length) (min m f.marks_length) row column bands rows columns (length dat)
+    (write_number ws f.grid (min n f.image_length) (min m f.marks_length) row column bands rows columns (length dat)
     (fit_in_data f.grid row column dat))
     f row column dat
-frame_step (skip n m row column) f =
-    frame_skip (skip_number f.grid (min n f.image_length) (min m f.marks_length) row column) f row column
-frame_step (progress m) f =
-    record { answer = frame_progress (progress_number f.grid (min m f.marks_length)) f; frame = f }
-frame_step (finish n m) f =
+frame_step (skip ws n m row column) f =
+    frame_skip (skip_number ws f.grid (min n f.image_length) (min m f.marks_length) row column) f row column
+frame_step (progress ws m) f =
+    record { answer = frame_progress (progress_number ws f.grid (min m f.marks_length)) f; frame = f }
+frame_step (finish ws n m) f =
     record {
-      answer = frame_finish (start_number f.grid (min n f.image_length) (min m f.marks_length)) f;
+      answer = frame_finish (start_number ws f.grid (min n f.image_length) (min m f.marks_length)) f;
       frame = f;
     }
-frame_step (relay n m scratch) f =
-    frame_relay (relay_number f.grid (min n f.image_length) (min m f.marks_length) (length scratch)) f
+frame_step (relay ws n m scratch) f =
+    frame_relay (relay_number ws f.grid (min n f.image_length) (min m f.marks_length) (length scratch)) f
 
 pub record FrameCalled : Type 0 where
   pub answers : List Answer
@@ -236,6 +237,6 @@ frame_window_by n f w out =
     })
     (λ k. record { shape = record { number = k; bands = 0; rows = 0; columns = 0 }; out = out })
 
--- the plain frame's window, on the first n bytes of the image
-unfoldable pub frame_window : Frame → ℕ → Window → List ℕ → Filled
-frame_window f n w out = frame_window_by (window_number f.grid (min n f.image_length) w (length out)) f w out
+-- the plain frame's window with a table, on the first n bytes of the image
+unfoldable pub frame_window : Widths → Frame → ℕ → Window → List ℕ → Filled
+frame_window ws f n w out = frame_window_by (window_number ws f.grid (min n f.image_length) w (length out)) f w out

@@ -3,6 +3,7 @@
 use Rattle.std.specs.Prelude.{ℕ, ◌+◌, ◌*◌, ◌<◌, ◌≡◌, true, false, List, length, drop, replicate}
 use Rattle.common.specs.Over.{over}
 use Rattle.bits.specs.Bits.{bit_at}
+use Rattle.widths.specs.declared.Widths.{Widths}
 use Rattle.grid.specs.declared.Grid.{Grid}
 use Rattle.grid.specs.Sizes.{band_bytes, image_bytes, byte_multiple}
 use Rattle.grid.specs.Layout.{place, Sample, SampleBit}
@@ -28,8 +29,9 @@ pub record Relays (g : Grid) (image scratch : List ℕ) (after : Relaid) : Type 
   pub image-surplus : drop (image_bytes g) after.image ≡ drop (image_bytes g) image
   pub scratch-zeros : after.scratch ≡ over scratch 0 (replicate (g.bands * band_bytes g) 0)
 
--- on any image, marks and scratch that the questions accept
+-- on any image, marks and scratch that the questions accept, with any table
 abbrev pub RelayClaim : Type 0
 RelayClaim =
-    (g : Grid) (image marks scratch : List ℕ) → relay_number g (length image) (length marks) (length scratch) ≡ 0
-    → Relays g image scratch (relay g image marks scratch)
+    (ws : Widths) (g : Grid) (image marks scratch : List ℕ)
+    → relay_number ws g (length image) (length marks) (length scratch) ≡ 0
+    → Relays g image scratch (relay ws g image marks scratch)

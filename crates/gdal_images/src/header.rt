@@ -5,6 +5,7 @@ ghost use Rattle.std.specs.Prelude.{◌+◌, ◌≤◌};
 use grid::EdgeRule;
 use refusals::Refusal;
 use subheader::ImageSubheader;
+use widths::Widths;
 
 // Fields of the file header: the lengths of this header, of the image subheader and of the image.
 const HL: usize = 354;
@@ -69,5 +70,6 @@ pub fn subheader_of(file: &[u8]) -> Result<ImageSubheader, Refusal> {
     let second = subheader_part(subheader, IC, ImageSubheader::SECOND_BYTES)?;
     let third = subheader_part(subheader, IMODE, ImageSubheader::THIRD_BYTES)?;
     let bands = digit(subheader, NBANDS) as u32;
-    ImageSubheader::read(first, second, third, bands, EdgeRule::Full)
+    let edges = EdgeRule::Full;
+    ImageSubheader::read(first, second, third, bands, edges, &Widths::STANDARD)
 }

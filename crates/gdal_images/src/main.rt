@@ -12,10 +12,14 @@ use grid::Grid;
 use printing::ReadAnswer;
 use std::rt::Files;
 use std::{fs, io};
+use widths::Widths;
 use windows::Rectangle;
 
 // The most columns of an image that is printed as a whole.
 const MAX_COLUMNS: u32 = 19;
+
+// The table of widths that each call is handed.
+static STANDARD: Widths = Widths::STANDARD;
 
 #[derive(Clone, Copy)]
 struct Picture<'a> {
@@ -27,7 +31,9 @@ impl<'a> Picture<'a> {
     // A block of at most 8 columns, 4 rows and 2 bands, with its shape.
     fn print_block(self, rt: &impl Print, row: u32, column: u32) -> io::Result<()> {
         let mut out = [0u8; 512];
-        let read = reading::decode_block(self.image, self.grid, row, column, 0, None, &mut out);
+        let read = reading::decode_block(
+            self.image, self.grid, &STANDARD, row, column, 0, None, &mut out,
+        );
         println!(rt; "block {row} {column} {}", ReadAnswer { read, out: &out })
     }
 
@@ -55,7 +61,7 @@ impl<'a> Picture<'a> {
             rows: 1,
             columns,
         };
-        let read = windows::read_window(self.image, self.grid, part, None, out);
+        let read = windows::read_window(self.image, self.grid, &STANDARD, part, None, out);
         println!(rt; "{}", ReadAnswer { read, out })
     }
 

@@ -2,6 +2,8 @@
 -- that is no mode, or no rule, is refused with 99, before question 1.
 -- Assumes nothing.
 use Rattle.std.specs.Prelude.{ℕ, ◌+◌, ◌*◌, false, List, Option, Some, None, Result, Ok, Err, eqb}
+use Rattle.widths.specs.declared.Widths.{Widths}
+use Rattle.widths.specs.Loading.{Loaded}
 use Rattle.grid.specs.declared.EdgeRule.{EdgeRule}
 use Rattle.grid.specs.declared.EdgeRule.TheVariants.{Tight, Full}
 use Rattle.grid.specs.declared.Grid.{Grid}
@@ -31,12 +33,13 @@ use Rattle.calls.specs.Relay.{Relaid}
 use Rattle.gezdunar.specs.declared.RelayAnswer.{RelayAnswer}
 use Rattle.gezdunar.specs.declared.Place.{Place}
 use Rattle.gezdunar.specs.declared.GridSizes.{GridSizes}
+use Rattle.gezdunar.specs.declared.WidthsAnswer.{WidthsAnswer}
 
 -- ---- the version and the grid
 
--- the boundary's version, 0.6.0: major, minor and patch
+-- the boundary's version, 0.7.0: major, minor and patch
 abbrev pub version : ℕ
-version = 0 * 1_000_000 + 6 * 1_000 + 0
+version = 0 * 1_000_000 + 7 * 1_000 + 0
 
 -- the numbers of a picture in blocks of NPPBV rows and NPPBH columns: NBPR and NBPC by rounding up, 0 for a side 0
 abbrev pub numbers_of : ℕ → ℕ → ℕ → ℕ → ℕ → ℕ → ℕ → ℕ → GridNumbers
@@ -180,9 +183,9 @@ place_of (Ok span) = part_at span.start span.length
 place_of (Err refusal) = empty_at (number_of refusal)
 
 -- where the whole nominal block lies in an image of n bytes; an empty part beside a refusal and in S
-unfoldable pub whole_place : Grid → ℕ → ℕ → ℕ → Place
-whole_place g n row column =
-    outcome (whole_number g n row column) (part_at (whole_start g row column) (whole_length g)) empty_at
+unfoldable pub whole_place : Widths → Grid → ℕ → ℕ → ℕ → Place
+whole_place ws g n row column =
+    outcome (whole_number ws g n row column) (part_at (whole_start g row column) (whole_length g)) empty_at
 
 -- sizes beside a number: s, t, the block's, the image's, the blocks, the words for their marks
 abbrev pub sizes_beside : ℕ → ℕ → ℕ → ℕ → ℕ → ℕ → ℕ → GridSizes
@@ -201,9 +204,16 @@ abbrev pub no_sizes : ℕ → GridSizes
 no_sizes n = sizes_beside n 0 0 0 0 0 0
 
 -- the sizes of an accepted grid
-unfoldable pub sizes_of : Grid → GridSizes
-sizes_of g =
-    outcome (grid_number g)
-    (sizes_beside 0 (sample_bytes g) (band_bytes g) (g.bands * band_bytes g) (image_bytes g) (blocks g)
-    (mark_words (blocks g)))
-    no_sizes
+unfoldable pub accepted_sizes : Grid → GridSizes
+accepted_sizes g =
+    sizes_beside 0 (sample_bytes g) (band_bytes g) (g.bands * band_bytes g) (image_bytes g) (blocks g)
+    (mark_words (blocks g))
+
+unfoldable pub sizes_of : Widths → Grid → GridSizes
+sizes_of ws g = outcome (grid_number ws g) (accepted_sizes g) no_sizes
+
+-- ---- widths
+
+-- a loaded table as it crosses: 65 entries beside the number, zeros beside a refusal
+abbrev pub widths_out : Loaded → WidthsAnswer
+widths_out l = record { number = l.number; entries = l.widths.entries }

@@ -5,6 +5,7 @@ use Rattle.std.specs.Prelude.{ℕ, ◌≡◌, Bool, List, [], ◌∷◌, Some, g
 use Rattle.common.specs.Questions.{outcome}
 use Rattle.common.specs.Tests.{every, pick}
 use Rattle.layout.specs.declared.InterleaveMode.TheVariants.{B}
+use Rattle.widths.specs.declared.Widths.{Widths}
 use Rattle.grid.specs.declared.EdgeRule.{EdgeRule}
 use Rattle.grid.specs.declared.Grid.{Grid}
 use Rattle.fields.specs.declared.named.PixelValueType.TheVariants.{UnsignedInt}
@@ -114,10 +115,10 @@ fields_of s e =
     }
 
 -- the writer, on fields that cross as bytes, under a rule and where its byte is none; the rule is not written
-unfoldable pub write_under : EdgeRule → SubheaderBytes → List ℕ → List ℕ → List ℕ → PartsOut
-write_under e s first second third =
-    pick (are_named s) (write_subheader (fields_of s e) first second third) (parts_out 24 first second third)
+unfoldable pub write_under : Widths → EdgeRule → SubheaderBytes → List ℕ → List ℕ → List ℕ → PartsOut
+write_under ws e s first second third =
+    pick (are_named s) (write_subheader ws (fields_of s e) first second third) (parts_out 24 first second third)
 
-unfoldable pub write_bytes : SubheaderBytes → List ℕ → List ℕ → List ℕ → PartsOut
-write_bytes s first second third =
-    on_known (rule_of s.grid.edges) (λ e. write_under e s first second third) (parts_out 99 first second third)
+unfoldable pub write_bytes : Widths → SubheaderBytes → List ℕ → List ℕ → List ℕ → PartsOut
+write_bytes ws s first second third =
+    on_known (rule_of s.grid.edges) (λ e. write_under ws e s first second third) (parts_out 99 first second third)

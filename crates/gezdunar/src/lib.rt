@@ -1,5 +1,6 @@
 // The C boundary: one function for each call, over the proved entry points. Slices cross as a pointer and a length,
-// the grid as a struct of its numbers; a byte that is no mode, or no edge rule, is refused with 99, before question 1.
+// the grid as a struct of its numbers, the table of widths as its entries; a byte that is no mode, or no edge rule, is
+// refused with 99, before question 1.
 // C has neither Result nor Option: an answer is a struct with the number first, and bands are `all` and a list.
 #![tactic(auto)]
 
@@ -9,6 +10,7 @@ mod reads;
 mod reorderings;
 mod sizes;
 mod subheaders;
+mod tables;
 mod writes;
 
 // The grid's numbers, IMODE as its letter's byte, and the edge rule as T or F.
@@ -54,6 +56,14 @@ pub struct SubheaderAnswer {
 pub struct RelayAnswer {
     pub number: u32,
     pub grid: GridNumbers,
+}
+
+// The number of a loading, and the table's entries for NBPP 0 to 64.
+#[repr(C)]
+#[derive(Clone, Copy)]
+pub struct WidthsAnswer {
+    pub number: u32,
+    pub entries: [u8; 65],
 }
 
 // Where a part of the image lies, and the call's number.

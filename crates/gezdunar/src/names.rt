@@ -13,7 +13,7 @@ use layout::InterleaveMode;
 pub extern "C" fn gezdunar_version() -> u32
     ensures { result ≡ version }
 {
-    6_000
+    7_000
 }
 
 // The numbers of a picture in blocks; NBPR and NBPC follow from the sides.

@@ -1,6 +1,7 @@
 // Reading across the boundary.
 ghost use Rattle.std.specs.Prelude.{◌≡◌, length};
 ghost use Rattle.layout.specs.Bands.{bands_of};
+ghost use Rattle.widths.specs.Widths.{table_of};
 ghost use Rattle.grid.specs.Check.{grid_number};
 ghost use Rattle.calls.specs.Orders.{rectangle};
 ghost use Rattle.calls.specs.Reads.{filled_with, block_read, window};
@@ -11,15 +12,16 @@ use crate::{GridNumbers, Place};
 use calls::Shape;
 use grid::places::Span;
 use refusals::{Refusal, answer_number};
+use widths::Widths;
 use windows::Rectangle;
 
 // Questions 1 to 4.
 #[unsafe(no_mangle)]
-pub extern "C" fn gezdunar_grid_check(numbers: GridNumbers) -> u32
-    ensures { result ≡ on_known (named_grid numbers) grid_number 99 }
+pub extern "C" fn gezdunar_grid_check(numbers: GridNumbers, widths: &[u8]) -> u32
+    ensures { result ≡ on_known (named_grid numbers) (grid_number (table_of widths.now)) 99 }
 {
     match named_grid(numbers) {
-        Some(grid) => answer_number(&grid.check()),
+        Some(grid) => answer_number(&grid.check(&Widths::new(widths))),
         None => Refusal::NoMode.number(),
     }
 }
@@ -29,6 +31,7 @@ pub extern "C" fn gezdunar_grid_check(numbers: GridNumbers) -> u32
 pub extern "C" fn gezdunar_decode_block(
     image: &[u8],
     numbers: GridNumbers,
+    widths: &[u8],
     block_row: u32,
     block_col: u32,
     resolution_level: u32,
@@ -37,7 +40,8 @@ pub extern "C" fn gezdunar_decode_block(
     out: &mut [u8],
 ) -> Shape
     ensures { filled_with result out.new ≡ on_known (named_grid numbers)
-        (λ g. block_read g image.now block_row block_col resolution_level (bands_of all list.now) out.old)
+        (λ g. block_read (table_of widths.now) g image.now block_row block_col resolution_level
+        (bands_of all list.now) out.old)
         (filled_with unknown_shape out.old) }
 {
     let asked = asked_bands(all, list);
@@ -45,6 +49,7 @@ pub extern "C" fn gezdunar_decode_block(
         Some(grid) => Shape::from(reading::decode_block(
             image,
             grid,
+            &Widths::new(widths),
             block_row,
             block_col,
             resolution_level,
@@ -60,6 +65,7 @@ pub extern "C" fn gezdunar_decode_block(
 pub extern "C" fn gezdunar_read_window(
     image: &[u8],
     numbers: GridNumbers,
+    widths: &[u8],
     row: u32,
     column: u32,
     rows: u32,
@@ -69,7 +75,8 @@ pub extern "C" fn gezdunar_read_window(
     out: &mut [u8],
 ) -> Shape
     ensures { filled_with result out.new ≡ on_known (named_grid numbers)
-        (λ g. window g image.now (rectangle row column rows columns (bands_of all list.now)) out.old)
+        (λ g. window (table_of widths.now) g image.now
+        (rectangle row column rows columns (bands_of all list.now)) out.old)
         (filled_with unknown_shape out.old) }
 {
     let area = Rectangle {
@@ -80,7 +87,14 @@ pub extern "C" fn gezdunar_read_window(
     };
     let asked = asked_bands(all, list);
     match named_grid(numbers) {
-        Some(grid) => Shape::from(windows::read_window(image, grid, area, asked, out)),
+        Some(grid) => Shape::from(windows::read_window(
+            image,
+            grid,
+            &Widths::new(widths),
+            area,
+            asked,
+            out,
+        )),
         None => Shape::from(Err(Refusal::NoMode)),
     }
 }
@@ -109,14 +123,21 @@ impl From<Result<Span, Refusal>> for Place {
 pub extern "C" fn gezdunar_whole_block(
     image: &[u8],
     numbers: GridNumbers,
+    widths: &[u8],
     block_row: u32,
     block_col: u32,
 ) -> Place
     ensures { result ≡ on_known (named_grid numbers)
-        (λ g. whole_place g (length image.now) block_row block_col) (empty_at 99) }
+        (λ g. whole_place (table_of widths.now) g (length image.now) block_row block_col) (empty_at 99) }
 {
     match named_grid(numbers) {
-        Some(grid) => Place::from(reading::whole::find_whole(image, grid, block_row, block_col)),
+        Some(grid) => Place::from(reading::whole::find_whole(
+            image,
+            grid,
+            &Widths::new(widths),
+            block_row,
+            block_col,
+        )),
         None => Place::from(Err(Refusal::NoMode)),
     }
 }

@@ -2,6 +2,7 @@
 ghost use Rattle.std.specs.Prelude.{◌≡◌, IfOk};
 ghost use Rattle.common.specs.Questions.{ask};
 ghost use Rattle.refusals.specs.Refusals.{answer_number};
+ghost use Rattle.widths.specs.Widths.{table_of};
 ghost use Rattle.subheader.specs.Subheader.{parts_out, read_as_of, read_subheader};
 ghost use Rattle.gezdunar.specs.Boundary.{edges_letter, on_known, rule_of};
 ghost use Rattle.gezdunar.specs.Subheaders.{numbers_in, bytes_of, no_bytes, answer_of};
@@ -13,6 +14,7 @@ use fields::named::Named;
 use grid::{EdgeRule, Grid};
 use refusals::{Refusal, answer_number};
 use subheader::{ImageSubheader, named_value};
+use widths::Widths;
 
 // The letter of an edge rule, which C gives and gets: a byte of the C interface, not its name.
 fn edges_letter(edges: EdgeRule) -> u8
@@ -109,13 +111,19 @@ pub extern "C" fn gezdunar_subheader_read(
     third: &[u8],
     bands: u32,
     edges: u8,
+    widths: &[u8],
 ) -> SubheaderAnswer
     ensures { result ≡ on_known (rule_of edges) (λ e. answer_of
-        (read_subheader first.now second.now third.now bands e)) (no_bytes 99) }
+        (read_subheader (table_of widths.now) first.now second.now third.now bands e)) (no_bytes 99) }
 {
     match named_rule(edges) {
         Some(rule) => SubheaderAnswer::from(ImageSubheader::read(
-            first, second, third, bands, rule,
+            first,
+            second,
+            third,
+            bands,
+            rule,
+            &Widths::new(widths),
         )),
         None => SubheaderAnswer::from(Err(Refusal::NoMode)),
     }
@@ -143,14 +151,15 @@ fn fields_of(subheader: SubheaderBytes, edges: EdgeRule) -> Result<ImageSubheade
 fn write_under(
     subheader: SubheaderBytes,
     edges: EdgeRule,
+    widths: &Widths,
     first: &mut [u8],
     second: &mut [u8],
     third: &mut [u8],
 ) -> Result<(), Refusal>
     ensures { parts_out (answer_number result) first.new second.new third.new
-        ≡ write_under edges subheader first.old second.old third.old }
+        ≡ write_under widths.now edges subheader first.old second.old third.old }
 {
-    fields_of(subheader, edges)?.write(first, second, third)
+    fields_of(subheader, edges)?.write(widths, first, second, third)
 }
 
 // Writes three parts of an image subheader; the edge rule is asked for and not written.
@@ -158,15 +167,19 @@ fn write_under(
 #[unsafe(no_mangle)]
 pub extern "C" fn gezdunar_subheader_write(
     subheader: SubheaderBytes,
+    widths: &[u8],
     first: &mut [u8],
     second: &mut [u8],
     third: &mut [u8],
 ) -> u32
     ensures { parts_out result first.new second.new third.new
-        ≡ write_bytes subheader first.old second.old third.old }
+        ≡ write_bytes (table_of widths.now) subheader first.old second.old third.old }
 {
     match named_rule(subheader.grid.edges) {
-        Some(edges) => answer_number(&write_under(subheader, edges, first, second, third)),
+        Some(edges) => {
+            let widths = Widths::new(widths);
+            answer_number(&write_under(subheader, edges, &widths, first, second, third))
+        }
         None => Refusal::NoMode.number(),
     }
 }

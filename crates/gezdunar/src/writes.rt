@@ -1,5 +1,6 @@
 // Writing across the boundary.
 ghost use Rattle.std.specs.Prelude.{◌≡◌};
+ghost use Rattle.widths.specs.Widths.{table_of};
 ghost use Rattle.calls.specs.Writes.{frame_out, number as plain_answer, start, write, skip, progress, finish};
 ghost use Rattle.refusals.specs.Refusals.{answer_number};
 ghost use Rattle.calls.specs.Relay.{relay};
@@ -10,6 +11,7 @@ use crate::{GridNumbers, RelayAnswer};
 use calls::{Answer, Extent};
 use grid::Grid;
 use refusals::Refusal;
+use widths::Widths;
 
 // Starts a frame.
 #[unsafe(no_mangle)]
@@ -17,13 +19,14 @@ pub extern "C" fn gezdunar_start(
     image: &mut [u8],
     marks: &mut [u64],
     numbers: GridNumbers,
+    widths: &[u8],
 ) -> Answer
     ensures { frame_out result image.new marks.new ≡ on_known (named_grid numbers)
-        (λ g. start g image.old marks.old)
+        (λ g. start (table_of widths.now) g image.old marks.old)
         (frame_out (plain_answer 99) image.old marks.old) }
 {
     match named_grid(numbers) {
-        Some(grid) => Answer::from(writing::start(image, marks, grid)),
+        Some(grid) => Answer::from(writing::start(image, marks, grid, &Widths::new(widths))),
         None => Answer::from(Refusal::NoMode),
     }
 }
@@ -34,6 +37,7 @@ pub extern "C" fn gezdunar_encode_block(
     image: &mut [u8],
     marks: &mut [u64],
     numbers: GridNumbers,
+    widths: &[u8],
     block_row: u32,
     block_col: u32,
     shape_bands: usize,
@@ -42,7 +46,7 @@ pub extern "C" fn gezdunar_encode_block(
     data: &[u8],
 ) -> Answer
     ensures { frame_out result image.new marks.new ≡ on_known (named_grid numbers)
-        (λ g. write g image.old marks.old block_row block_col
+        (λ g. write (table_of widths.now) g image.old marks.old block_row block_col
         shape_bands shape_rows shape_columns «data».now)
         (frame_out (plain_answer 99) image.old marks.old) }
 {
@@ -53,7 +57,14 @@ pub extern "C" fn gezdunar_encode_block(
     };
     match named_grid(numbers) {
         Some(grid) => Answer::from(writing::encode_block(
-            image, marks, grid, block_row, block_col, shape, data,
+            image,
+            marks,
+            grid,
+            &Widths::new(widths),
+            block_row,
+            block_col,
+            shape,
+            data,
         )),
         None => Answer::from(Refusal::NoMode),
     }
@@ -65,38 +76,52 @@ pub extern "C" fn gezdunar_skip_block(
     image: &[u8],
     marks: &mut [u64],
     numbers: GridNumbers,
+    widths: &[u8],
     block_row: u32,
     block_col: u32,
 ) -> Answer
     ensures { frame_out result image.now marks.new ≡ on_known (named_grid numbers)
-        (λ g. skip g image.now marks.old block_row block_col)
+        (λ g. skip (table_of widths.now) g image.now marks.old block_row block_col)
         (frame_out (plain_answer 99) image.now marks.old) }
 {
     match named_grid(numbers) {
-        Some(grid) => Answer::from(writing::skip_block(image, marks, grid, block_row, block_col)),
+        Some(grid) => Answer::from(writing::skip_block(
+            image,
+            marks,
+            grid,
+            &Widths::new(widths),
+            block_row,
+            block_col,
+        )),
         None => Answer::from(Refusal::NoMode),
     }
 }
 
 // How many blocks are marked.
 #[unsafe(no_mangle)]
-pub extern "C" fn gezdunar_progress(marks: &[u64], numbers: GridNumbers) -> Answer
-    ensures { result ≡ on_known (named_grid numbers) (λ g. progress g marks.now) (plain_answer 99) }
+pub extern "C" fn gezdunar_progress(marks: &[u64], numbers: GridNumbers, widths: &[u8]) -> Answer
+    ensures { result ≡ on_known (named_grid numbers)
+        (λ g. progress (table_of widths.now) g marks.now) (plain_answer 99) }
 {
     match named_grid(numbers) {
-        Some(grid) => Answer::from(writing::progress(marks, grid)),
+        Some(grid) => Answer::from(writing::progress(marks, grid, &Widths::new(widths))),
         None => Answer::from(Refusal::NoMode),
     }
 }
 
 // Is every block marked?
 #[unsafe(no_mangle)]
-pub extern "C" fn gezdunar_finalize(image: &[u8], marks: &[u64], numbers: GridNumbers) -> Answer
+pub extern "C" fn gezdunar_finalize(
+    image: &[u8],
+    marks: &[u64],
+    numbers: GridNumbers,
+    widths: &[u8],
+) -> Answer
     ensures { result ≡ on_known (named_grid numbers)
-        (λ g. finish g image.now marks.now) (plain_answer 99) }
+        (λ g. finish (table_of widths.now) g image.now marks.now) (plain_answer 99) }
 {
     match named_grid(numbers) {
-        Some(grid) => Answer::from(writing::finalize(image, marks, grid)),
+        Some(grid) => Answer::from(writing::finalize(image, marks, grid, &Widths::new(widths))),
         None => Answer::from(Refusal::NoMode),
     }
 }
@@ -126,14 +151,21 @@ pub extern "C" fn gezdunar_relay(
     image: &mut [u8],
     marks: &[u64],
     numbers: GridNumbers,
+    widths: &[u8],
     scratch: &mut [u8],
 ) -> RelayAnswer
     ensures { relay_out result image.new scratch.new ≡ on_known (named_grid numbers)
-        (λ g. relaid_out numbers (relay g image.old marks.now scratch.old))
+        (λ g. relaid_out numbers (relay (table_of widths.now) g image.old marks.now scratch.old))
         (relay_out (relay_answer numbers 99) image.old scratch.old) }
 {
     match named_grid(numbers) {
-        Some(grid) => relay_answer(numbers, writing::relay(image, marks, grid, scratch)),
+        Some(grid) => {
+            let widths = Widths::new(widths);
+            relay_answer(
+                numbers,
+                writing::relay(image, marks, grid, &widths, scratch),
+            )
+        }
         None => relay_answer(numbers, Err(Refusal::NoMode)),
     }
 }

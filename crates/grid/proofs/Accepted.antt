@@ -15,48 +15,71 @@ use Rattle.common.specs.Questions.{ask}
 use Rattle.common.specs.Rounding.{ceil_div}
 use Rattle.grid.specs.Sizes.{sample_bytes, band_bytes, blocks, image_bytes, block_index, actual_rows, actual_columns}
 use Rattle.grid.specs.Check.{block_side, q1, q2, q3, q4, q6, ask_grid, grid_number, Accepted}
+use Rattle.widths.specs.declared.Widths.{Widths}
+use Rattle.widths.specs.Widths.{width_taken}
 use Rattle.grid.specs.Layout.{Block}
 use Rattle.common.proofs.Arith.{prod_le, part-start, ceil_pos}
 use Rattle.common.proofs.Questions.{Before, ask-inv}
 use Rattle.common.specs.Tests.{within, some}
 use Rattle.common.proofs.Tests.{true_false, every-at, within-facts, Within}
-use Rattle.grid.proofs.WidthLaws.{taken-pos, taken-top, sample-size}
+use Rattle.widths.proofs.WidthLaws.{taken-pos, taken-top, narrow}
+use Rattle.widths.proofs.Standard.{takes-taken}
 
 pub record Answered (g : Grid) : Type 0 where
   pub q1-yes : q1 g ≡ true
-  pub q2-yes : q2 g ≡ true
+  pub q2-yes : width_taken g.nbpp ≡ true
   pub q3-yes : q3 g ≡ true
   pub q4-yes : q4 g ≡ true
 
-pub grid-inv : (g : Grid) (rest : ℕ) → ask_grid g rest ≡ 0 → Answered g × (rest ≡ 0)
-grid-inv g rest e =
+-- a call with a grid that is not refused: what its questions were, the table's too
+pub grid-inv : (ws : Widths) (g : Grid) (rest : ℕ) → ask_grid ws g rest ≡ 0 → Answered g × (rest ≡ 0)
+grid-inv ws g rest e =
     let a = ask-inv 1 (q1 g) _ (lit< tt) e in
-    let b = ask-inv 2 (q2 g) _ (lit< tt) a.1 in
+    let b = ask-inv 2 (q2 ws g) _ (lit< tt) a.1 in
     let c = ask-inv 3 (q3 g) _ (lit< tt) b.1 in
     let d = ask-inv 4 (q4 g) _ (lit< tt) c.1 in
-    (record { q1-yes = a.0; q2-yes = b.0; q3-yes = c.0; q4-yes = d.0 }, d.1)
+    (record { q1-yes = a.0; q2-yes = takes-taken ws g.nbpp b.0; q3-yes = c.0; q4-yes = d.0 }, d.1)
+
+-- the table takes the width of a grid that is accepted with it
+pub takes-width : (ws : Widths) (g : Grid) (rest : ℕ) → ask_grid ws g rest ≡ 0 → q2 ws g ≡ true
+takes-width ws g rest e = (ask-inv 2 (q2 ws g) _ (lit< tt) (ask-inv 1 (q1 g) _ (lit< tt) e).1).0
 
 pub answered : (g : Grid) → Accepted g → Answered g
-unfolding grid_number
-answered g e = (grid-inv g 0 e).0
+answered g e =
+    let a = ask-inv 1 (q1 g) _ (lit< tt) e in
+    let b = ask-inv 2 (width_taken g.nbpp) _ (lit< tt) a.1 in
+    let c = ask-inv 3 (q3 g) _ (lit< tt) b.1 in
+    record { q1-yes = a.0; q2-yes = b.0; q3-yes = c.0; q4-yes = (ask-inv 4 (q4 g) _ (lit< tt) c.1).0 }
 
 pub accepted_of : (g : Grid) → Answered g → Accepted g
-unfolding grid_number
 accepted_of g a = rw (a.q1-yes, a.q2-yes, a.q3-yes, a.q4-yes)
 
--- an accepted grid leaves the questions after it
-pub grid-yes : (g : Grid) (rest : ℕ) → Accepted g → ask_grid g rest ≡ rest
-grid-yes g rest e =
+-- a grid that is accepted with a table is accepted
+pub accepted_by : (ws : Widths) (g : Grid) → grid_number ws g ≡ 0 → Accepted g
+unfolding grid_number
+accepted_by ws g e = accepted_of g (grid-inv ws g 0 e).0
+
+-- where the table takes its width, an accepted grid leaves the questions after it
+pub grid-open : (ws : Widths) (g : Grid) (rest : ℕ) → Accepted g → q2 ws g ≡ true → ask_grid ws g rest ≡ rest
+grid-open ws g rest e t =
     let a = answered g e in
-    rw (a.q1-yes, a.q2-yes, a.q3-yes, a.q4-yes)
+    rw (a.q1-yes, t, a.q3-yes, a.q4-yes)
+
+pub grid-yes : (ws : Widths) (g : Grid) (rest : ℕ) → grid_number ws g ≡ 0 → ask_grid ws g rest ≡ rest
+unfolding grid_number
+grid-yes ws g rest e = grid-open ws g rest (accepted_by ws g e) (takes-width ws g 0 e)
+
+-- where it does not, the answer is 2
+pub grid_barred : (ws : Widths) (g : Grid) (rest : ℕ) → Accepted g → q2 ws g ≡ false → ask_grid ws g rest ≡ 2
+grid_barred ws g rest e t = rw ((answered g e).q1-yes, t)
 
 abbrev ask_by : Bool → Bool → Bool → Bool → ℕ → ℕ
 ask_by a b c d rest = ask 1 a (ask 2 b (ask 3 c (ask 4 d rest)))
 
 -- a grid that is not accepted gives its own number
-pub grid-no : (g : Grid) (rest : ℕ) → (grid_number g ≡ 0 → ⊥) → ask_grid g rest ≡ grid_number g
+pub grid-no : (ws : Widths) (g : Grid) (rest : ℕ) → (grid_number ws g ≡ 0 → ⊥) → ask_grid ws g rest ≡ grid_number ws g
 unfolding grid_number
-grid-no g rest ne = go (q1 g) (q2 g) (q3 g) (q4 g) ne
+grid-no ws g rest ne = go (q1 g) (q2 ws g) (q3 g) (q4 g) ne
   where
     go : (a b c d : Bool) → (ask_by a b c d 0 ≡ 0 → ⊥) → ask_by a b c d rest ≡ ask_by a b c d 0
     go true true true true f = absurd (f refl)
@@ -65,10 +88,13 @@ grid-no g rest ne = go (q1 g) (q2 g) (q3 g) (q4 g) ne
     go true false c d f = refl
     go false b c d f = refl
 
-pub grid-before : (g : Grid) → Before (ask_grid g)
+pub grid-before : (ws : Widths) (g : Grid) → Before (ask_grid ws g)
 unfolding grid_number
-grid-before g =
-    record { refuses = λ e ne rest. e ∙ sym (grid-no g rest (λ z. ne (e ∙ z))); accepts = λ e z rest. grid-yes g rest (sym e ∙ z) }
+grid-before ws g =
+    record {
+      refuses = λ e ne rest. e ∙ sym (grid-no ws g rest (λ z. ne (e ∙ z)));
+      accepts = λ e z rest. grid-yes ws g rest (sym e ∙ z);
+    }
 
 pub block_in : (g : Grid) (row column : ℕ) → q6 g row column ≡ true → Block g row column
 unfolding q6
@@ -122,7 +148,7 @@ block-sides g e =
       down = side_facts g.nppbv g.nrows (a 3) (within-facts 1 99_999_999 g.nrows (a 0));
     }
 
-pub sized : (g : Grid) → q1 g ≡ true → q2 g ≡ true → Sized g
+pub sized : (g : Grid) → q1 g ≡ true → width_taken g.nbpp ≡ true → Sized g
 unfolding q1
 sized g e f =
     let a = every-at _ e in
@@ -157,6 +183,13 @@ unfolding q3
 counted g e =
     let a = every-at _ e in
     record { across = eqb-true _ _ (a 0); down = eqb-true _ _ (a 1); nbpr-le = leb-true _ _ (a 2); nbpc-le = leb-true _ _ (a 3) }
+
+-- samples of a width that is taken can be moved
+sample-size : (n : ℕ) → width_taken n ≡ true → SampleSize n (ceil_div n 8)
+sample-size n e =
+    let p = taken-pos n e in
+    let t = taken-top n e in
+    record { bits_pos = p; bits_le = omega arith; bytes_le = omega arith; narrow = narrow n e; some = omega arith }
 
 -- all of it
 pub record Facts (g : Grid) : Type 0 where

@@ -4,6 +4,7 @@ use Rattle.std.specs.Prelude.{ℕ, ◌≡◌, Bool, true, false}
 use Rattle.std.proofs.Common.{refl, sym, ◌∙◌, ◌<◌, lit<, subst}
 use Rattle.common.specs.Questions.{ask}
 use Rattle.common.proofs.Questions.{ask-inv}
+use Rattle.widths.specs.declared.Widths.{Widths}
 use Rattle.grid.specs.declared.Grid.{Grid}
 use Rattle.grid.specs.declared.GridBlock.{GridBlock}
 use Rattle.grid.specs.Check.{ask_grid, grid_number, q6}
@@ -11,13 +12,13 @@ use Rattle.grid.specs.Internal.Blocks.{IsBlock}
 use Rattle.grid.proofs.Accepted.{grid-before, grid-yes}
 
 -- where questions 1 to 4 refuse, those after them make no difference
-pub grid-refused : (g : Grid) {k : ℕ} (rest : ℕ) → k ≡ grid_number g → (k ≡ 0 → ⊥) → k ≡ ask_grid g rest
+pub grid-refused : (ws : Widths) (g : Grid) {k : ℕ} (rest : ℕ) → k ≡ grid_number ws g → (k ≡ 0 → ⊥) → k ≡ ask_grid ws g rest
 unfolding grid_number
-grid-refused g rest e ne = (grid-before g).refuses e ne rest
+grid-refused ws g rest e ne = (grid-before ws g).refuses e ne rest
 
 -- and where they accept, those after them decide
-pub grid-accepted : (g : Grid) (rest : ℕ) → 0 ≡ grid_number g → ask_grid g rest ≡ rest
-grid-accepted g rest e = grid-yes g rest (sym e)
+pub grid-accepted : (ws : Widths) (g : Grid) (rest : ℕ) → 0 ≡ grid_number ws g → ask_grid ws g rest ≡ rest
+grid-accepted ws g rest e = grid-yes ws g rest (sym e)
 
 ask-refused : (n : ℕ) (b : Bool) {k : ℕ} (rest : ℕ) → k ≡ ask n b 0 → (k ≡ 0 → ⊥) → k ≡ ask n b rest
 ask-refused n true rest e ne = absurd (ne e)

@@ -40,7 +40,7 @@ pub rule_moves_no-block : RuleMovesNoBlock
 unfolding grid_number block_end band_bytes whole_start whole_length q1 q3 q4
 rule_moves_no-block e g row column =
     record {
-      number = refl;
+      number = λ ws. refl;
       image = refl;
       end = same_end (byte_multiple g) e g row column;
       whole-start = refl;

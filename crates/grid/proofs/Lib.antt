@@ -1,6 +1,4 @@
 -- The laws of `grid`.
-pub mod Table
-pub mod WidthLaws
 pub mod Accepted
 pub mod BlockLayouts
 pub mod EdgeRules

@@ -4,7 +4,8 @@ use Rattle.std.specs.Prelude.{ℕ, ◌≡◌, Bool, [], ◌∷◌, leb, ltb, eqb
 use Rattle.common.specs.Questions.{ask}
 use Rattle.common.specs.Tests.{every, some, within}
 use Rattle.common.specs.Rounding.{ceil_div}
-use Rattle.grid.specs.Widths.{width_taken}
+use Rattle.widths.specs.declared.Widths.{Widths}
+use Rattle.widths.specs.Widths.{width_taken, takes}
 use Rattle.grid.specs.Sizes.{image_bytes}
 use Rattle.grid.specs.declared.EdgeRule.{EdgeRule}
 use Rattle.grid.specs.declared.Grid.{Grid}
@@ -25,9 +26,9 @@ q1 g =
     ∷ within 1 99_999 g.bands
     ∷ [])
 
--- NBPP is a width that is taken
-abbrev pub q2 : Grid → Bool
-q2 g = width_taken g.nbpp
+-- 2: does the table take NBPP
+abbrev pub q2 : Widths → Grid → Bool
+q2 ws g = takes ws g.nbpp
 
 -- NBPR and NBPC are what the sides give, both at most 9,999
 unfoldable pub q3 : Grid → Bool
@@ -51,17 +52,21 @@ q6 g row column = every (ltb row g.nbpc ∷ ltb column g.nbpr ∷ [])
 unfoldable pub q11 : Grid → ℕ → Bool
 q11 g n = leb (image_bytes g) n
 
--- questions 1, 2, 3, 4, then the rest
-abbrev pub ask_grid : Grid → ℕ → ℕ
-ask_grid g rest = ask 1 (q1 g) (ask 2 (q2 g) (ask 3 (q3 g) (ask 4 (q4 g) rest)))
+-- questions 1, 2, 3, 4, then the rest, where 2 is answered
+abbrev pub ask_sides : Bool → Grid → ℕ → ℕ
+ask_sides width g rest = ask 1 (q1 g) (ask 2 width (ask 3 (q3 g) (ask 4 (q4 g) rest)))
+
+-- questions 1, 2, 3, 4, asked of a grid with the table that the call is handed, then the rest
+abbrev pub ask_grid : Widths → Grid → ℕ → ℕ
+ask_grid ws g rest = ask_sides (q2 ws g) g rest
 
 -- the number of the first "no" of questions 1 to 4, or 0
-unfoldable pub grid_number : Grid → ℕ
-grid_number g = ask_grid g 0
+unfoldable pub grid_number : Widths → Grid → ℕ
+grid_number ws g = ask_grid ws g 0
 
--- a grid that questions 1 to 4 accept
+-- a grid that questions 1 to 4 accept with some table: its width is one that is taken
 abbrev pub Accepted : Grid → Type 0
-Accepted g = grid_number g ≡ 0
+Accepted g = ask_sides (width_taken g.nbpp) g 0 ≡ 0
 
 -- the grid of a picture in blocks of NPPBV rows and NPPBH columns
 abbrev pub grid_of : ℕ → ℕ → ℕ → ℕ → InterleaveMode → EdgeRule → ℕ → ℕ → Grid

@@ -1,6 +1,7 @@
 -- One grid under either edge rule: what the rule changes, and what it does not.
 -- Assumes nothing.
 use Rattle.std.specs.Prelude.{ℕ, ◌≡◌, true}
+use Rattle.widths.specs.declared.Widths.{Widths}
 use Rattle.grid.specs.declared.EdgeRule.{EdgeRule}
 use Rattle.grid.specs.declared.EdgeRule.TheVariants.{Full}
 use Rattle.grid.specs.declared.Grid.{Grid}
@@ -41,9 +42,10 @@ BlocksInsideLieTheSame =
     → actual_rows g row ≡ g.nppbv → actual_columns g column ≡ g.nppbh
     → place (with_rule e g) row column b r c ≡ place g row column b r c
 
--- at every width a grid has one number, one size of the image, and each block one end and one place under both
+-- at every width a grid has one number with each table of widths, one size of the image, and each block one end and one
+-- place under both
 pub record SameBlock (e : EdgeRule) (g : Grid) (row column : ℕ) : Type 0 where
-  pub number : grid_number (with_rule e g) ≡ grid_number g
+  pub number : (ws : Widths) → grid_number ws (with_rule e g) ≡ grid_number ws g
   pub image : image_bytes (with_rule e g) ≡ image_bytes g
   pub end : block_end (with_rule e g) row column ≡ block_end g row column
   pub whole-start : whole_start (with_rule e g) row column ≡ whole_start g row column

@@ -1,5 +1,4 @@
 -- The definitions of `grid`.
-pub mod Widths
 pub mod Sizes
 pub mod Check
 pub mod Layout

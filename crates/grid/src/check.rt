@@ -2,16 +2,17 @@
 ghost use Rattle.std.specs.Prelude.{◌≡◌, true, IfOk};
 ghost use Rattle.refusals.specs.Refusals.{answer_number};
 ghost use Rattle.common.specs.Questions.{ask};
+ghost use Rattle.widths.specs.Widths.{width_taken};
 ghost use Rattle.grid.specs.declared.EdgeRule.TheVariants.{Tight};
-ghost use Rattle.grid.specs.Check.{block_side, q1, q2, q3, q4, q6, q11, grid_number, grid_of};
+ghost use Rattle.grid.specs.Check.{block_side, q1, q3, q4, q6, q11, grid_number, grid_of};
 ghost use Rattle.grid.specs.EdgeRules.{under_full};
 ghost use Rattle.grid.specs.Internal.Blocks.{IsBlock};
 
-use crate::widths::width_bytes;
 use crate::{AcceptedGrid, EdgeRule, Grid, GridBlock};
 use common::{ceil_div, within};
 use layout::InterleaveMode;
 use refusals::Refusal;
+use widths::Widths;
 
 // Is a side of a block within its limit, or the picture's own?
 fn block_side_fits(side: u32, picture: u32) -> bool
@@ -103,7 +104,7 @@ impl Grid {
 
     // Question 4. The product is held against a quotient, so that it cannot wrap.
     fn image_fits(self) -> bool
-        requires { (q1 self ≡ true) × (q2 self ≡ true) × (q3 self ≡ true) }
+        requires { (q1 self ≡ true) × (width_taken self.nbpp ≡ true) × (q3 self ≡ true) }
         ensures { result ≡ q4 self }
     {
         let t = self.band_bytes_of_sides() as u64;
@@ -121,16 +122,17 @@ impl Grid {
         row < self.nbpc && column < self.nbpr
     }
 
-    // Questions 1 to 4. Inlined, since a mask's lookup takes two thirds of the time then.
+    // Questions 1 to 4, with the table that the call is handed. Inlined, since a mask's lookup takes two thirds of the
+    // time then.
     #[inline(always)]
-    pub fn check(self) -> Result<AcceptedGrid, Refusal>
-        ensures number { answer_number result ≡ grid_number self }
+    pub fn check(self, widths: &Widths) -> Result<AcceptedGrid, Refusal>
+        ensures number { answer_number result ≡ grid_number widths.now self }
         ensures same { IfOk result (λ a. a.grid ≡ self) }
     {
         if !self.sides_fit() {
             return Err(Refusal::Limits);
         }
-        if width_bytes(self.nbpp) == 0 {
+        if !widths.takes(self.nbpp) {
             return Err(Refusal::Width);
         }
         if !self.blocks_fit() {

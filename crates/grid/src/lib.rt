@@ -7,7 +7,6 @@ ghost use Rattle.grid.specs.Layout.{Block};
 mod check;
 pub mod places;
 mod sizes;
-mod widths;
 
 use layout::InterleaveMode;
 use std::fmt;
@@ -53,7 +52,7 @@ pub struct Grid {
     pub nbpc: u32,
 }
 
-// A grid that questions 1 to 4 accept.
+// A grid that questions 1 to 4 accept with some table of widths.
 #[derive(Clone, Copy)]
 pub struct AcceptedGrid {
     pub grid: Grid,

@@ -2,7 +2,8 @@
 ghost use Rattle.std.specs.Prelude.{◌≡◌, true, ◌-◌, ◌*◌, ◌<◌, min};
 ghost use Rattle.grid.specs.Sizes.{sample_bytes, band_bytes, blocks as block_count, image_bytes, block_index};
 ghost use Rattle.grid.specs.Sizes.{actual_rows, actual_columns, byte_multiple};
-ghost use Rattle.grid.specs.Check.{q1, q2};
+ghost use Rattle.grid.specs.Check.{q1};
+ghost use Rattle.widths.specs.Widths.{width_taken};
 
 use crate::{AcceptedGrid, Grid, GridBlock};
 
@@ -25,7 +26,7 @@ impl Grid {
 
     // t: bytes of a band of a block, where questions 3 and 4 are still to be asked.
     pub fn band_bytes_of_sides(self) -> usize
-        requires { (q1 self ≡ true) × (q2 self ≡ true) }
+        requires { (q1 self ≡ true) × (width_taken self.nbpp ≡ true) }
         ensures { result ≡ band_bytes self }
     {
         let h = self.nppbh as usize;

@@ -1,11 +1,15 @@
-// Grids at every limit of questions 1 to 4, and the figures without a letter: prints what the check answers.
+// Grids at every limit of questions 1 to 4, the figures without a letter, and tables of widths: prints what the check
+// and the loading of a table answer.
 #![tactic(auto)]
+
+mod tables;
 
 use grid::{EdgeRule, Grid};
 use layout::InterleaveMode;
 use refusals::answer_number;
 use std::fmt::Display;
 use std::io;
+use widths::Widths;
 
 // The limits are the same under both edge rules.
 fn grid_of(
@@ -55,7 +59,10 @@ fn down(nbpc: u32, nrows: u32) -> Grid {
 }
 
 fn answer(rt: &impl Print, label: impl Display + Drop, grid: Grid) -> io::Result<()> {
-    println!(rt; "{label}: {}", answer_number(&grid.check()))
+    println!(rt;
+        "{label}: {}",
+        answer_number(&grid.check(&Widths::STANDARD))
+    )
 }
 
 fn answer_widths(rt: &impl Print, widths: &[u32]) -> io::Result<()> {
@@ -66,7 +73,7 @@ fn answer_widths(rt: &impl Print, widths: &[u32]) -> io::Result<()> {
 }
 
 fn figures(rt: &impl Print) -> io::Result<()> {
-    let Ok(g) = figure(8).check() else {
+    let Ok(g) = figure(8).check(&Widths::STANDARD) else {
         return println!(rt; "the figures' grid is refused");
     };
     println!(rt; "NBPR {}", g.grid.nbpr)?;
@@ -212,7 +219,7 @@ fn images(rt: &impl Print) -> io::Result<()> {
 // The answer, and the image's bytes where it is 0.
 fn answer_with_bytes(rt: &impl Print, label: &str, grid: Grid) -> io::Result<()> {
     answer(rt, label, grid)?;
-    match grid.check() {
+    match grid.check(&Widths::STANDARD) {
         Ok(accepted) => println!(rt; "its bytes: {}", accepted.image_bytes()),
         Err(_) => Ok(()),
     }
@@ -251,5 +258,6 @@ fn main(rt: HostRuntime) -> io::Result<()> {
     high_blocks(&rt)?;
     counts(&rt)?;
     images(&rt)?;
-    one_blocks(&rt)
+    one_blocks(&rt)?;
+    tables::print_tables(&rt)
 }

@@ -1,6 +1,5 @@
 -- The laws of `mask`.
 pub mod Refusals
-pub mod Tabulate
 pub mod Records
 pub mod Fields
 pub mod Numbers

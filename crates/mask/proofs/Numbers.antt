@@ -13,11 +13,12 @@ use borrow.Author.Tests.{eqb-true, leb-true, ltb-true, eq-eqb, ne_eqb, le-leb, l
 use Rattle.common.specs.Tests.{every, some}
 use Rattle.common.proofs.Questions.{Before, ask-before, ask-inv}
 use Rattle.common.proofs.Tests.{every-at, true_false}
+use Rattle.widths.specs.declared.Widths.{Widths}
 use Rattle.grid.specs.declared.Grid.{Grid}
 use Rattle.grid.specs.Sizes.{blocks}
-use Rattle.grid.specs.Check.{ask_grid, q6, Accepted}
+use Rattle.grid.specs.Check.{ask_grid, grid_number, q6, Accepted}
 use Rattle.grid.specs.Layout.{Block}
-use Rattle.grid.proofs.Accepted.{accepted_of, grid-yes, grid-inv, grid-before, block_in}
+use Rattle.grid.proofs.Accepted.{accepted_of, takes-width, grid-open, grid-yes, grid-inv, grid-before, block_in}
 use Rattle.marks.specs.Marks.{mark_words, q12}
 use Rattle.mask.specs.declared.ImageDataMask.{ImageDataMask}
 use Rattle.mask.specs.Table.{records, code_bytes, table_size, mask_size, header}
@@ -42,32 +43,40 @@ pub pad-length : (mask : ImageDataMask) → q17 mask ≡ true
     → (mask.pad_pixel_mask_record_length ≡ 0) ⊎ (mask.pad_pixel_mask_record_length ≡ 4)
 pad-length mask e = zero_or_four _ (every-at _ e 1)
 
+-- ---- the grid
+
+-- the grid of a call that is not refused
+grid-zero : (ws : Widths) (g : Grid) (rest : ℕ) → ask_grid ws g rest ≡ 0 → grid_number ws g ≡ 0
+unfolding grid_number
+grid-zero ws g rest e = grid-open ws g 0 (accepted_of g (grid-inv ws g rest e).0) (takes-width ws g rest e)
+
 -- ---- parse
 
 -- an accepted parse
-pub record Parse (g : Grid) (table : List ℕ) : Type 0 where
-  pub accepted : Accepted g
+pub record Parse (ws : Widths) (g : Grid) (table : List ℕ) : Type 0 where
+  pub accepted : grid_number ws g ≡ 0
   pub ten : 10 ≤ length table
   pub record_lengths : q17 (header table) ≡ true
   pub code-length : (header table).pad_pixel_code_length ≤ 32
   pub whole : mask_size g (header table) ≤ length table
 
-pub table_before : (g : Grid) (table : List ℕ) → Before (λ rest. ask_grid g (ask_table g table rest))
-table_before g table =
+pub table_before : (ws : Widths) (g : Grid) (table : List ℕ) → Before (λ rest. ask_grid ws g (ask_table g table rest))
+table_before ws g table =
     ask-before _ 19 (q19 g table) (lit< tt)
     (ask-before _ 18 (q18 (header table)) (lit< tt)
     (ask-before _ 17 (q17 (header table)) (lit< tt)
-    (ask-before (ask_grid g) 16 (q16 table) (lit< tt) (grid-before g))))
+    (ask-before (ask_grid ws g) 16 (q16 table) (lit< tt) (grid-before ws g))))
 
-table-inv : (g : Grid) (table : List ℕ) (rest : ℕ) → ask_grid g (ask_table g table rest) ≡ 0 → Parse g table × (rest ≡ 0)
-table-inv g table rest e =
-    let s = grid-inv g _ e in
+table-inv : (ws : Widths) (g : Grid) (table : List ℕ) (rest : ℕ) → ask_grid ws g (ask_table g table rest) ≡ 0
+    → Parse ws g table × (rest ≡ 0)
+table-inv ws g table rest e =
+    let s = grid-inv ws g _ e in
     let a = ask-inv 16 (q16 table) _ (lit< tt) s.1 in
     let b = ask-inv 17 (q17 (header table)) _ (lit< tt) a.1 in
     let c = ask-inv 18 (q18 (header table)) _ (lit< tt) b.1 in
     let d = ask-inv 19 (q19 g table) _ (lit< tt) c.1 in (
       record {
-        accepted = accepted_of g s.0;
+        accepted = grid-zero ws g _ e;
         ten = leb-true _ _ a.0;
         record_lengths = b.0;
         code-length = leb-true _ _ c.0;
@@ -76,54 +85,55 @@ table-inv g table rest e =
       d.1,
     )
 
-pub parse-facts : (g : Grid) (table : List ℕ) → parse_number g table ≡ 0 → Parse g table
+pub parse-facts : (ws : Widths) (g : Grid) (table : List ℕ) → parse_number ws g table ≡ 0 → Parse ws g table
 unfolding parse_number
-parse-facts g table e = (table-inv g table 0 e).0
+parse-facts ws g table e = (table-inv ws g table 0 e).0
 
-table-yes : (g : Grid) (table : List ℕ) (rest : ℕ) → Parse g table → ask_grid g (ask_table g table rest) ≡ rest
-table-yes g table rest t =
-    grid-yes g _ t.accepted
+table-yes : (ws : Widths) (g : Grid) (table : List ℕ) (rest : ℕ) → Parse ws g table
+    → ask_grid ws g (ask_table g table rest) ≡ rest
+table-yes ws g table rest t =
+    grid-yes ws g _ t.accepted
     ∙ rw (le-leb _ _ t.ten, t.record_lengths, le-leb _ _ t.code-length, le-leb _ _ t.whole)
 
-pub parse-yes : (g : Grid) (table : List ℕ) → Parse g table → parse_number g table ≡ 0
+pub parse-yes : (ws : Widths) (g : Grid) (table : List ℕ) → Parse ws g table → parse_number ws g table ≡ 0
 unfolding parse_number
-parse-yes g table t = table-yes g table 0 t
+parse-yes ws g table t = table-yes ws g table 0 t
 
 -- the code is at most four bytes, and they are there
-pub code_inside : (g : Grid) (table : List ℕ) → Parse g table
+pub code_inside : (ws : Widths) (g : Grid) (table : List ℕ) → Parse ws g table
     → let n = code_bytes (header table).pad_pixel_code_length in (n ≤ 4) × (10 + n ≤ length table)
 unfolding table_size
-code_inside g table t = omega (arith, t.code-length, t.whole)
+code_inside ws g table t = omega (arith, t.code-length, t.whole)
 
 -- ---- lookup
 
 -- an accepted lookup
-pub record Lookup (g : Grid) (table : List ℕ) (row column band : ℕ) : Type 0 where
-  pub parsed : Parse g table
+pub record Lookup (ws : Widths) (g : Grid) (table : List ℕ) (row column band : ℕ) : Type 0 where
+  pub parsed : Parse ws g table
   pub block : Block g row column
   pub in_band : band < g.bands
 
-pub lookup-facts : (g : Grid) (table : List ℕ) (row column band : ℕ) → lookup_number g table row column band ≡ 0
-    → Lookup g table row column band
+pub lookup-facts : (ws : Widths) (g : Grid) (table : List ℕ) (row column band : ℕ)
+    → lookup_number ws g table row column band ≡ 0 → Lookup ws g table row column band
 unfolding lookup_number
-lookup-facts g table row column band e =
-    let a = table-inv g table _ e in
+lookup-facts ws g table row column band e =
+    let a = table-inv ws g table _ e in
     let b = ask-inv 6 (q6 g row column) _ (lit< tt) a.1 in
     let c = ask-inv 8 (q8_lookup g band) _ (lit< tt) b.1 in
     record { parsed = a.0; block = block_in g row column b.0; in_band = ltb-true _ _ c.0 }
 
-pub lookup-yes : (g : Grid) (table : List ℕ) (row column band : ℕ) → Lookup g table row column band
-    → lookup_number g table row column band ≡ 0
+pub lookup-yes : (ws : Widths) (g : Grid) (table : List ℕ) (row column band : ℕ) → Lookup ws g table row column band
+    → lookup_number ws g table row column band ≡ 0
 unfolding lookup_number q6 every
-lookup-yes g table row column band l =
-    table-yes g table _ l.parsed
+lookup-yes ws g table row column band l =
+    table-yes ws g table _ l.parsed
     ∙ rw (lt-ltb _ _ l.block.in_row, lt-ltb _ _ l.block.in_column, lt-ltb _ _ l.in_band)
 
 -- ---- mask write
 
 -- an accepted mask write
-pub record MaskWrite (g : Grid) (mask : ImageDataMask) (n m l : ℕ) : Type 0 where
-  pub accepted : Accepted g
+pub record MaskWrite (ws : Widths) (g : Grid) (mask : ImageDataMask) (n m l : ℕ) : Type 0 where
+  pub accepted : grid_number ws g ≡ 0
   pub record_lengths : q17 mask ≡ true
   pub code-length : mask.pad_pixel_code_length ≤ 32
   pub code : mask.pad_pixel_code < 2 ^ (8 * code_bytes mask.pad_pixel_code_length)
@@ -132,11 +142,11 @@ pub record MaskWrite (g : Grid) (mask : ImageDataMask) (n m l : ℕ) : Type 0 wh
   pub pad-list : m ≡ entries g mask.pad_pixel_mask_record_length
   pub room : mask_size g mask ≤ l
 
-pub mask_write-facts : (g : Grid) (mask : ImageDataMask) (n m l : ℕ) → mask_write_number g mask n m l ≡ 0
-    → MaskWrite g mask n m l
+pub mask_write-facts : (ws : Widths) (g : Grid) (mask : ImageDataMask) (n m l : ℕ)
+    → mask_write_number ws g mask n m l ≡ 0 → MaskWrite ws g mask n m l
 unfolding mask_write_number
-mask_write-facts g mask n m l e =
-    let s = grid-inv g _ e in
+mask_write-facts ws g mask n m l e =
+    let s = grid-inv ws g _ e in
     let a = ask-inv 17 (q17 mask) _ (lit< tt) s.1 in
     let b = ask-inv 18 (q18 mask) _ (lit< tt) a.1 in
     let c = ask-inv 20 (q20 mask) _ (lit< tt) b.1 in
@@ -145,7 +155,7 @@ mask_write-facts g mask n m l e =
     let r = ask-inv 9 (q9_write g mask l) _ (lit< tt) f.1 in
     let lists = every-at _ f.0 in
     record {
-      accepted = accepted_of g s.0;
+      accepted = grid-zero ws g _ e;
       record_lengths = a.0;
       code-length = leb-true _ _ b.0;
       code = ltb-true _ _ c.0;
@@ -155,11 +165,11 @@ mask_write-facts g mask n m l e =
       room = leb-true _ _ r.0;
     }
 
-pub mask_write-yes : (g : Grid) (mask : ImageDataMask) (n m l : ℕ) → MaskWrite g mask n m l
-    → mask_write_number g mask n m l ≡ 0
+pub mask_write-yes : (ws : Widths) (g : Grid) (mask : ImageDataMask) (n m l : ℕ) → MaskWrite ws g mask n m l
+    → mask_write_number ws g mask n m l ≡ 0
 unfolding mask_write_number every
-mask_write-yes g mask n m l w =
-    grid-yes g _ w.accepted
+mask_write-yes ws g mask n m l w =
+    grid-yes ws g _ w.accepted
     ∙ rw (
       w.record_lengths,
       le-leb _ _ w.code-length,
@@ -178,10 +188,10 @@ pub record FromMarks (g : Grid) (n m : ℕ) : Type 0 where
   pub words : mark_words (blocks g) ≤ n
   pub room : records g ≤ m
 
-pub from-marks-facts : (g : Grid) (n m : ℕ) → from_marks_number g n m ≡ 0 → FromMarks g n m
+pub from-marks-facts : (ws : Widths) (g : Grid) (n m : ℕ) → from_marks_number ws g n m ≡ 0 → FromMarks g n m
 unfolding from_marks_number q12
-from-marks-facts g n m e =
-    let s = grid-inv g _ e in
+from-marks-facts ws g n m e =
+    let s = grid-inv ws g _ e in
     let a = ask-inv 12 (q12 (blocks g) n) _ (lit< tt) s.1 in
     let b = ask-inv 9 (q9_marks g m) _ (lit< tt) a.1 in
     record { accepted = accepted_of g s.0; words = leb-true _ _ a.0; room = leb-true _ _ b.0 }

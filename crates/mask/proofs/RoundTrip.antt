@@ -23,6 +23,7 @@ use Rattle.bits.proofs.Bits.{within}
 use Rattle.bits.proofs.BigEndian.{length-be_bytes, be_at_lt}
 use Rattle.bits.proofs.Values.{length-values, values_ext, side-by-side, be_at_ext, be_at-be_bytes, be_at-values, be_bytes-be_at}
 use Rattle.layout.specs.Order.{bands_apart}
+use Rattle.widths.specs.declared.Widths.{Widths}
 use Rattle.grid.specs.declared.Grid.{Grid}
 use Rattle.grid.specs.Layout.{Block}
 use Rattle.mask.specs.declared.ImageDataMask.{ImageDataMask}
@@ -31,7 +32,7 @@ use Rattle.mask.specs.declared.Parsed.{Parsed}
 use Rattle.mask.specs.Mask.{WrittenOut, written_with, not_written, no_parse, to_bytes}
 use Rattle.mask.specs.Mask.{entries, parse_number, parse, mask_write_number, mark_record, mark_records, lookup_number, record_of, is_present, has_block, is_given, offset_if, get_block_offset}
 use Rattle.mask.specs.RoundTrip.{own_records, own_block_records, own_pad_records, ParsedComesBack, written_mask, WrittenComesBack}
-use Rattle.mask.proofs.Tabulate.{length-tabulate, get_d_tabulate}
+use Rattle.common.proofs.Tabulate.{length-tabulate, get_d_tabulate}
 use Rattle.mask.proofs.Records.{lookup_lt}
 use Rattle.mask.proofs.Numbers.{Parse, parse-facts, parse-yes, lookup-yes, MaskWrite, mask_write-facts}
 use Rattle.mask.proofs.Numbers.{mask_write-yes, block-length, pad-length}
@@ -58,16 +59,16 @@ parts t c n m =
     (take-add (10 + c + n) m t, take-add (10 + c) n t, take-add 10 c t, take-add 8 2 t, take-add 6 2 t, take-add 4 2 t)
 
 -- a table that parse takes, with its own size in IMDATOFF, is what a mask write makes of it
-pub parsed-written : (g : Grid) (table : List ℕ) → Bytes table → parse_number g table ≡ 0
+pub parsed-written : (ws : Widths) (g : Grid) (table : List ℕ) → Bytes table → parse_number ws g table ≡ 0
     → (header table).image_data_offset ≡ mask_size g (header table)
     → table_bytes g (header table) (own_block_records g table) (own_pad_records g table)
     ≡ take (mask_size g (header table)) table
 unfolding table_bytes
-parsed-written g table b z o =
+parsed-written ws g table b z o =
     let c : ℕ = code_bytes (be_at table 8 2) in
     let n : ℕ = entries g (be_at table 4 2) in
     let m : ℕ = entries g (be_at table 6 2) in
-    let t = parse-facts g table z in
+    let t = parse-facts ws g table z in
     let size = size-entries g (header table) t.record_lengths in
     let fits : 10 + c + n * 4 + m * 4 ≤ length table = rw size at t.whole in
     rw (
@@ -83,23 +84,24 @@ parsed-written g table b z o =
     (parts table c (n * 4) (m * 4) ∙ ap (λ (i : ℕ). take i table) (sym size ∙ sym o))
 
 -- what parse and the write make of their numbers
-parse-number : (g : Grid) (table : List ℕ) → (parse g table).number ≡ 0 → parse_number g table ≡ 0
+parse-number : (ws : Widths) (g : Grid) (table : List ℕ) → (parse ws g table).number ≡ 0 → parse_number ws g table ≡ 0
 unfolding parse
-parse-number g table e = outcome-zero _ _ no_parse (λ (p : Parsed). p.number) (λ n. refl) e
+parse-number ws g table e = outcome-zero _ _ no_parse (λ (p : Parsed). p.number) (λ n. refl) e
 
-parse-is : (g : Grid) (table : List ℕ) → parse_number g table ≡ 0
-    → parse g table ≡ record { number = 0; mask = header table; used = mask_size g (header table) }
+parse-is : (ws : Widths) (g : Grid) (table : List ℕ) → parse_number ws g table ≡ 0
+    → parse ws g table ≡ record { number = 0; mask = header table; used = mask_size g (header table) }
 unfolding parse
-parse-is g table z = outcome-yes _ no_parse z
+parse-is ws g table z = outcome-yes _ no_parse z
 
 -- the write accepts a parsed table's own header and records
-own-accepted : (g : Grid) (table : List ℕ) (l : ℕ) → Bytes table → parse_number g table ≡ 0
+own-accepted : (ws : Widths) (g : Grid) (table : List ℕ) (l : ℕ) → Bytes table → parse_number ws g table ≡ 0
     → (header table).image_data_offset ≡ mask_size g (header table) → mask_size g (header table) ≤ l
-    → mask_write_number g (header table) (length (own_block_records g table)) (length (own_pad_records g table)) l ≡ 0
-own-accepted g table l b z o room =
-    let t = parse-facts g table z in
+    → mask_write_number ws g (header table) (length (own_block_records g table)) (length (own_pad_records g table)) l
+    ≡ 0
+own-accepted ws g table l b z o room =
+    let t = parse-facts ws g table z in
     let size : be_at table 0 4 < 2 ^ (8 * 4) = be_at_lt table 0 4 b in
-    mask_write-yes g (header table) _ _ l record {
+    mask_write-yes ws g (header table) _ _ l record {
       accepted = t.accepted;
       record_lengths = t.record_lengths;
       code-length = t.code-length;
@@ -112,15 +114,15 @@ own-accepted g table l b z o room =
 
 pub parsed_comes_back : ParsedComesBack
 unfolding to_bytes
-parsed_comes_back g table out b e o room =
-    let z : parse_number g table ≡ 0 = parse-number g table e in
-    let p = parse-is g table z in
+parsed_comes_back ws g table out b e o room =
+    let z : parse_number ws g table ≡ 0 = parse-number ws g table e in
+    let p = parse-is ws g table z in
     let own : (header table).image_data_offset ≡ mask_size g (header table)
     = sym (ap (λ (x : Parsed). x.mask.image_data_offset) p) ∙ o ∙ ap (λ (x : Parsed). x.used) p in
     rw p
-    (outcome-yes _ _ (own-accepted g table (length out) b z own (rw p at room))
+    (outcome-yes _ _ (own-accepted ws g table (length out) b z own (rw p at room))
     ∙ ap (λ (l : List ℕ). written_with (record { number = 0; bytes = mask_size g (header table) }) (over out 0 l))
-    (parsed-written g table b z own))
+    (parsed-written ws g table b z own))
 
 -- ---- written, then read
 
@@ -189,8 +191,9 @@ length_lt : {n : ℕ} → (n ≡ 0) ⊎ (n ≡ 4) → n < 2 ^ 16
 length_lt (inl e) = omega arith
 length_lt (inr e) = omega arith
 
-fits-written : (g : Grid) (mask : ImageDataMask) (n m l : ℕ) → MaskWrite g mask n m l → Fits (written_mask g mask)
-fits-written g mask n m l w =
+fits-written : (ws : Widths) (g : Grid) (mask : ImageDataMask) (n m l : ℕ) → MaskWrite ws g mask n m l
+    → Fits (written_mask g mask)
+fits-written ws g mask n m l w =
     record {
       offset = omega (arith, w.size);
       block = length_lt (block-length mask w.record_lengths);
@@ -200,8 +203,8 @@ fits-written g mask n m l w =
     }
 
 -- a written table, with anything behind it, or nothing
-module _ (g : Grid) (mask : ImageDataMask) (block_offsets pad_offsets rest : List ℕ) (l : ℕ)
-    (zero : mask_write_number g mask (length block_offsets) (length pad_offsets) l ≡ 0)
+module _ (ws : Widths) (g : Grid) (mask : ImageDataMask) (block_offsets pad_offsets rest : List ℕ) (l : ℕ)
+    (zero : mask_write_number ws g mask (length block_offsets) (length pad_offsets) l ≡ 0)
   where
     abbrev table : List ℕ
     table = table_bytes g mask block_offsets pad_offsets ++ rest
@@ -209,8 +212,8 @@ module _ (g : Grid) (mask : ImageDataMask) (block_offsets pad_offsets rest : Lis
     abbrev lists : List ℕ
     lists = offset_bytes block_offsets ++ (offset_bytes pad_offsets ++ rest)
 
-    facts : MaskWrite g mask (length block_offsets) (length pad_offsets) l
-    facts = mask_write-facts g mask (length block_offsets) (length pad_offsets) l zero
+    facts : MaskWrite ws g mask (length block_offsets) (length pad_offsets) l
+    facts = mask_write-facts ws g mask (length block_offsets) (length pad_offsets) l zero
 
     table_is : table ≡ headed (written_mask g mask) lists
     unfolding table_bytes
@@ -219,13 +222,13 @@ module _ (g : Grid) (mask : ImageDataMask) (block_offsets pad_offsets rest : Lis
     table-length : length table ≡ mask_size g mask + length rest
     unfolding table_bytes
     table-length =
-        rw (size_is g mask (length block_offsets) (length pad_offsets) l facts)
+        rw (size_is ws g mask (length block_offsets) (length pad_offsets) l facts)
         (simp (length-append, length-be_bytes, length-values) (omega arith))
 
     header_is : HeaderIs (written_mask g mask) table
-    header_is = rw table_is (headed-is (written_mask g mask) lists (fits-written g mask _ _ l facts))
+    header_is = rw table_is (headed-is (written_mask g mask) lists (fits-written ws g mask _ _ l facts))
 
-    accepted : Parse g table
+    accepted : Parse ws g table
     unfolding table_size
     accepted =
         let h = header_is in
@@ -238,11 +241,11 @@ module _ (g : Grid) (mask : ImageDataMask) (block_offsets pad_offsets rest : Lis
         }
 
     -- it is parsed to the mask that was written
-    pub written-parsed : parse g table ≡ record { number = 0; mask = written_mask g mask; used = mask_size g mask }
+    pub written-parsed : parse ws g table ≡ record { number = 0; mask = written_mask g mask; used = mask_size g mask }
     unfolding parse outcome
     written-parsed =
         let h = header_is in
-        rw (parse-yes g table accepted, h.offset, h.block, h.pad, h.code-length, h.code)
+        rw (parse-yes ws g table accepted, h.offset, h.block, h.pad, h.code-length, h.code)
 
     -- where it has block records, each is the list's entry
     module _ (four : mask.block_mask_record_length ≡ 4) (small : (k : ℕ) → get_or block_offsets k 0 < 2 ^ 32)
@@ -265,29 +268,29 @@ module _ (g : Grid) (mask : ImageDataMask) (block_offsets pad_offsets rest : Lis
             ∙ be_at-inside (values v 4 n) _ (k * 4) 4 (omega (arith, within k n 4 h, length-values v 4 n))
             ∙ be_at-values v 4 n k h (small k)
 
-        found : lookup_number g table row column band ≡ 0
-        found = lookup-yes g table row column band record { parsed = accepted; block = block; in_band = in_band }
+        found : lookup_number ws g table row column band ≡ 0
+        found = lookup-yes ws g table row column band record { parsed = accepted; block = block; in_band = in_band }
 
         has-records : eqb (be_at table 4 2) 0 ≡ false
         has-records = rw (header_is.block, four)
 
         -- so `has_block` and `get_block_offset` answer by it
-        pub has-written : has_block g table row column band
+        pub has-written : has_block ws g table row column band
             ≡ record { number = 0; present = not (eqb entry 0xFFFF_FFFF) }
         unfolding has_block outcome is_present pick
         has-written = rw (found, has-records, lookup-written)
 
-        pub offset-written : get_block_offset g table row column band ≡ offset_if (not (eqb entry 0xFFFF_FFFF)) entry
+        pub offset-written : get_block_offset ws g table row column band ≡ offset_if (not (eqb entry 0xFFFF_FFFF)) entry
         unfolding get_block_offset outcome is_given pick
         offset-written = rw (found, has-records, lookup-written)
 
 pub written_comes_back : WrittenComesBack
 unfolding to_bytes over
-written_comes_back g mask block_offsets pad_offsets out e =
-    let z : mask_write_number g mask (length block_offsets) (length pad_offsets) (length out) ≡ 0
+written_comes_back ws g mask block_offsets pad_offsets out e =
+    let z : mask_write_number ws g mask (length block_offsets) (length pad_offsets) (length out) ≡ 0
     = outcome-zero _ _ _ (λ (w : WrittenOut). w.answer.number) (λ n. refl) e in
     rw (outcome-yes _ (λ n. written_with (not_written n) out) z)
-    (written-parsed g mask block_offsets pad_offsets _ (length out) z)
+    (written-parsed ws g mask block_offsets pad_offsets _ (length out) z)
 
 -- ---- the records that the mask from marks fills
 

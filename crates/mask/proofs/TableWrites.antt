@@ -15,6 +15,7 @@ use Rattle.common.proofs.Tests.{pick_yes, pick_no}
 use Rattle.bits.specs.Bits.{be_bytes}
 use Rattle.bits.proofs.BigEndian.{length-be_bytes}
 use Rattle.bits.proofs.Values.{length-values}
+use Rattle.widths.specs.declared.Widths.{Widths}
 use Rattle.grid.specs.declared.Grid.{Grid}
 use Rattle.mask.specs.declared.ImageDataMask.{ImageDataMask}
 use Rattle.mask.specs.Table.{records, code_bytes, table_size, mask_size, length_bytes, offset_bytes, table_bytes}
@@ -40,14 +41,14 @@ size-entries g mask e =
       list-bytes g mask.pad_pixel_mask_record_length (pad-length mask e),
     )
 
-pub size_is : (g : Grid) (mask : ImageDataMask) (n m l : ℕ) → MaskWrite g mask n m l
+pub size_is : (ws : Widths) (g : Grid) (mask : ImageDataMask) (n m l : ℕ) → MaskWrite ws g mask n m l
     → mask_size g mask ≡ 10 + code_bytes mask.pad_pixel_code_length + n * 4 + m * 4
-size_is g mask n m l w = rw (w.block-list, w.pad-list) (size-entries g mask w.record_lengths)
+size_is ws g mask n m l w = rw (w.block-list, w.pad-list) (size-entries g mask w.record_lengths)
 
 -- the code is short, and the output holds the table
-pub table-room : (g : Grid) (mask : ImageDataMask) (n m l : ℕ) → MaskWrite g mask n m l
+pub table-room : (ws : Widths) (g : Grid) (mask : ImageDataMask) (n m l : ℕ) → MaskWrite ws g mask n m l
     → let code = code_bytes mask.pad_pixel_code_length in (code ≤ 4) × (10 + code + n * 4 + m * 4 ≤ l)
-table-room g mask n m l w = omega (arith, w.code-length, w.room, size_is g mask n m l w)
+table-room ws g mask n m l w = omega (arith, w.code-length, w.room, size_is ws g mask n m l w)
 
 -- ---- lists put one after another
 
@@ -79,19 +80,19 @@ lengths-put offset mask d {o₁ = o₁} h e₁ e₂ e₃ e₄ =
     (front-next _ 2 f₃ (length-be_bytes 2 mask.pad_pixel_code_length) (omega arith) e₄).put
 
 -- the table, by these, the code and the two lists: what an accepted mask write leaves
-pub table-put : (g : Grid) (mask : ImageDataMask) (block_offsets pad_offsets d : List ℕ) {size code : ℕ}
-    {o₁ o₂ o₃ o₄ : List ℕ} → mask_write_number g mask (length block_offsets) (length pad_offsets) (length d) ≡ 0
+pub table-put : (ws : Widths) (g : Grid) (mask : ImageDataMask) (block_offsets pad_offsets d : List ℕ) {size code : ℕ}
+    {o₁ o₂ o₃ o₄ : List ℕ} → mask_write_number ws g mask (length block_offsets) (length pad_offsets) (length d) ≡ 0
     → size ≡ mask_size g mask → code ≡ code_bytes mask.pad_pixel_code_length
     → o₁ ≡ over d 0 (length_bytes size mask)
     → o₂ ≡ over o₁ 10 (be_bytes code mask.pad_pixel_code)
     → o₃ ≡ over o₂ (10 + code) (offset_bytes block_offsets)
     → o₄ ≡ over o₃ (10 + code + length block_offsets * 4) (offset_bytes pad_offsets)
-    → written_with (record { number = 0; bytes = size }) o₄ ≡ to_bytes g mask block_offsets pad_offsets d
+    → written_with (record { number = 0; bytes = size }) o₄ ≡ to_bytes ws g mask block_offsets pad_offsets d
 unfolding to_bytes outcome table_bytes
-table-put g mask block_offsets pad_offsets d {code = code} {o₁ = o₁} z s c e₁ e₂ e₃ e₄ =
-    let w = mask_write-facts g mask (length block_offsets) (length pad_offsets) (length d) z in
+table-put ws g mask block_offsets pad_offsets d {code = code} {o₁ = o₁} z s c e₁ e₂ e₃ e₄ =
+    let w = mask_write-facts ws g mask (length block_offsets) (length pad_offsets) (length d) z in
     let room : 10 + code + length block_offsets * 4 + length pad_offsets * 4 ≤ length d =
-    omega (arith, table-room g mask _ _ _ w) in
+    omega (arith, table-room ws g mask _ _ _ w) in
     let ten : length (length_bytes (mask_size g mask) mask) ≡ 10 = simp (length-append, length-be_bytes) in
     let f₁ : Front d (length_bytes (mask_size g mask) mask) 10 o₁ = record { put = rw s at e₁; size = ten } in
     let f₂ = front-next _ code f₁ (length-be_bytes code mask.pad_pixel_code) (omega arith) e₂ in

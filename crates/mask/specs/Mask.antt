@@ -9,6 +9,7 @@ use Rattle.common.specs.Questions.{ask, outcome}
 use Rattle.common.specs.Tests.{every, some, pick}
 use Rattle.common.specs.Lists.{tabulate}
 use Rattle.common.specs.Over.{over}
+use Rattle.widths.specs.declared.Widths.{Widths}
 use Rattle.grid.specs.declared.Grid.{Grid}
 use Rattle.grid.specs.declared.AcceptedGrid.{AcceptedGrid}
 use Rattle.grid.specs.Check.{ask_grid, q6}
@@ -80,8 +81,8 @@ ask_table g table rest =
 abbrev pub parse_questions : Grid → List ℕ → ℕ
 parse_questions g table = ask_table g table 0
 
-unfoldable pub parse_number : Grid → List ℕ → ℕ
-parse_number g table = ask_grid g (parse_questions g table)
+unfoldable pub parse_number : Widths → Grid → List ℕ → ℕ
+parse_number ws g table = ask_grid ws g (parse_questions g table)
 
 abbrev pub no_mask : ImageDataMask
 no_mask =
@@ -107,9 +108,9 @@ abbrev pub IsChecked : Grid → List ℕ → AcceptedGrid × ImageDataMask → T
 IsChecked g table (grid, head) = (grid.grid ≡ g) × (head ≡ header_with table 0)
 
 -- parse: the header, the code and the count of bytes used
-unfoldable pub parse : Grid → List ℕ → Parsed
-parse g table =
-    outcome (parse_number g table)
+unfoldable pub parse : Widths → Grid → List ℕ → Parsed
+parse ws g table =
+    outcome (parse_number ws g table)
     (record { number = 0; mask = header table; used = mask_size g (header table) })
     no_parse
 
@@ -123,8 +124,8 @@ q8_lookup g band = ltb band g.bands
 abbrev pub lookup_questions : Grid → List ℕ → ℕ → ℕ → ℕ → ℕ
 lookup_questions g table row column band = ask_table g table (ask 6 (q6 g row column) (ask 8 (q8_lookup g band) 0))
 
-unfoldable pub lookup_number : Grid → List ℕ → ℕ → ℕ → ℕ → ℕ
-lookup_number g table row column band = ask_grid g (lookup_questions g table row column band)
+unfoldable pub lookup_number : Widths → Grid → List ℕ → ℕ → ℕ → ℕ → ℕ
+lookup_number ws g table row column band = ask_grid ws g (lookup_questions g table row column band)
 
 -- the offset that a table has for a band of a block
 abbrev pub record_of : Grid → List ℕ → ℕ → ℕ → ℕ → ℕ
@@ -151,9 +152,9 @@ present_of (Ok present) = record { number = 0; present = present }
 present_of (Err refusal) = not_present (number_of refusal)
 
 -- lookup: is a band of a block present
-unfoldable pub has_block : Grid → List ℕ → ℕ → ℕ → ℕ → Present
-has_block g table row column band =
-    outcome (lookup_number g table row column band)
+unfoldable pub has_block : Widths → Grid → List ℕ → ℕ → ℕ → ℕ → Present
+has_block ws g table row column band =
+    outcome (lookup_number ws g table row column band)
     (record { number = 0; present = is_present g table row column band })
     not_present
 
@@ -178,9 +179,9 @@ offset_of (Ok None) = no_offset 0
 offset_of (Err refusal) = no_offset (number_of refusal)
 
 -- lookup: the offset of a band of a block
-unfoldable pub get_block_offset : Grid → List ℕ → ℕ → ℕ → ℕ → BlockOffset
-get_block_offset g table row column band =
-    outcome (lookup_number g table row column band)
+unfoldable pub get_block_offset : Widths → Grid → List ℕ → ℕ → ℕ → ℕ → BlockOffset
+get_block_offset ws g table row column band =
+    outcome (lookup_number ws g table row column band)
     (offset_if (is_given g table row column band) (record_of g table row column band))
     no_offset
 
@@ -200,8 +201,8 @@ mask_write_questions g mask n m l =
     (ask 22 (q22 g mask n m)
     (ask 9 (q9_write g mask l) 0)))))
 
-unfoldable pub mask_write_number : Grid → ImageDataMask → ℕ → ℕ → ℕ → ℕ
-mask_write_number g mask n m l = ask_grid g (mask_write_questions g mask n m l)
+unfoldable pub mask_write_number : Widths → Grid → ImageDataMask → ℕ → ℕ → ℕ → ℕ
+mask_write_number ws g mask n m l = ask_grid ws g (mask_write_questions g mask n m l)
 
 -- a mask write's answer and the output it leaves
 pub record WrittenOut : Type 0 where
@@ -221,9 +222,9 @@ written_of (Ok bytes) = record { number = 0; bytes = bytes }
 written_of (Err refusal) = not_written (number_of refusal)
 
 -- mask write: the table put at the front of the output
-unfoldable pub to_bytes : Grid → ImageDataMask → List ℕ → List ℕ → List ℕ → WrittenOut
-to_bytes g mask block_offsets pad_offsets out =
-    outcome (mask_write_number g mask (length block_offsets) (length pad_offsets) (length out))
+unfoldable pub to_bytes : Widths → Grid → ImageDataMask → List ℕ → List ℕ → List ℕ → WrittenOut
+to_bytes ws g mask block_offsets pad_offsets out =
+    outcome (mask_write_number ws g mask (length block_offsets) (length pad_offsets) (length out))
     (written_with
     (record { number = 0; bytes = mask_size g mask })
     (over out 0 (table_bytes g mask block_offsets pad_offsets)))
@@ -239,8 +240,8 @@ q9_marks g m = leb (records g) m
 abbrev pub from_marks_questions : Grid → ℕ → ℕ → ℕ
 from_marks_questions g n m = ask 12 (q12 (blocks g) n) (ask 9 (q9_marks g m) 0)
 
-unfoldable pub from_marks_number : Grid → ℕ → ℕ → ℕ
-from_marks_number g n m = ask_grid g (from_marks_questions g n m)
+unfoldable pub from_marks_number : Widths → Grid → ℕ → ℕ → ℕ
+from_marks_number ws g n m = ask_grid ws g (from_marks_questions g n m)
 
 -- the word of record k: 0 for a marked block, 0xFFFFFFFF for another
 abbrev pub mark_record : Grid → List ℕ → ℕ → ℕ
@@ -270,8 +271,8 @@ abbrev pub marks_with : Parsed → List ℕ → MarksOut
 marks_with answer out = record { answer = answer; out = out }
 
 -- the mask from marks, filled into the front of the lent words; `used` is the number of words filled
-unfoldable pub from_provided_blocks : Grid → List ℕ → List ℕ → MarksOut
-from_provided_blocks g marks out =
-    outcome (from_marks_number g (length marks) (length out))
+unfoldable pub from_provided_blocks : Widths → Grid → List ℕ → List ℕ → MarksOut
+from_provided_blocks ws g marks out =
+    outcome (from_marks_number ws g (length marks) (length out))
     (marks_with (record { number = 0; mask = marks_mask; used = records g }) (over out 0 (mark_records g marks)))
     (λ n. marks_with (no_parse n) out)

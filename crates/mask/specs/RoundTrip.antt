@@ -1,9 +1,11 @@
--- A table that is parsed is accepted by the write and comes back, and one that is written is parsed again.
+-- A mask table that is parsed is accepted by the write and comes back, and one that is written is parsed again, with
+-- the same table of widths.
 -- Assumes nothing.
 use Rattle.std.specs.Prelude.{ℕ, ◌+◌, ◌*◌, ◌≤◌, ◌≡◌, List, length, take}
 use Rattle.common.specs.Lists.{tabulate}
 use Rattle.common.specs.Over.{over}
 use Rattle.bits.specs.Bits.{Bytes, be_at}
+use Rattle.widths.specs.declared.Widths.{Widths}
 use Rattle.grid.specs.declared.Grid.{Grid}
 use Rattle.mask.specs.declared.ImageDataMask.{ImageDataMask}
 use Rattle.mask.specs.Table.{code_bytes, mask_size}
@@ -25,10 +27,11 @@ own_pad_records g table =
 -- holds it, gives its used bytes back
 abbrev pub ParsedComesBack : Type 0
 ParsedComesBack =
-    (g : Grid) (table out : List ℕ) → Bytes table → (parse g table).number ≡ 0
-    → (parse g table).mask.image_data_offset ≡ (parse g table).used → (parse g table).used ≤ length out
-    → to_bytes g (parse g table).mask (own_block_records g table) (own_pad_records g table) out
-    ≡ written_with (record { number = 0; bytes = (parse g table).used }) (over out 0 (take (parse g table).used table))
+    (ws : Widths) (g : Grid) (table out : List ℕ) → Bytes table → (parse ws g table).number ≡ 0
+    → (parse ws g table).mask.image_data_offset ≡ (parse ws g table).used → (parse ws g table).used ≤ length out
+    → to_bytes ws g (parse ws g table).mask (own_block_records g table) (own_pad_records g table) out
+    ≡ written_with (record { number = 0; bytes = (parse ws g table).used })
+    (over out 0 (take (parse ws g table).used table))
 
 -- a mask as it is read from the table that it was written to: IMDATOFF is the table's size
 abbrev pub written_mask : Grid → ImageDataMask → ImageDataMask
@@ -44,7 +47,7 @@ written_mask g mask =
 -- the output of an accepted write is parsed to the mask that was written
 abbrev pub WrittenComesBack : Type 0
 WrittenComesBack =
-    (g : Grid) (mask : ImageDataMask) (block_offsets pad_offsets out : List ℕ)
-    → (to_bytes g mask block_offsets pad_offsets out).answer.number ≡ 0
-    → parse g (to_bytes g mask block_offsets pad_offsets out).out
+    (ws : Widths) (g : Grid) (mask : ImageDataMask) (block_offsets pad_offsets out : List ℕ)
+    → (to_bytes ws g mask block_offsets pad_offsets out).answer.number ≡ 0
+    → parse ws g (to_bytes ws g mask block_offsets pad_offsets out).out
     ≡ record { number = 0; mask = written_mask g mask; used = mask_size g mask }

@@ -11,6 +11,7 @@ use common::pick;
 use grid::{AcceptedGrid, Grid};
 use marks::{has_words, is_marked};
 use refusals::Refusal;
+use widths::Widths;
 
 // The block whose record k is filled; in S record index × bands + band is the block's.
 fn filled_block(grid: AcceptedGrid, k: usize) -> usize
@@ -37,11 +38,16 @@ fn fill_records(marks: &[u64], grid: AcceptedGrid, out: &mut [u32])
 
 impl ImageDataMask {
     // The questions of the mask from marks: 1 to 4, 12 and 9, for so many mark words and so many lent words.
-    fn check_marks(grid: Grid, words: usize, room: usize) -> Result<AcceptedGrid, Refusal>
-        ensures number { answer_number result ≡ from_marks_number grid words room }
+    fn check_marks(
+        grid: Grid,
+        widths: &Widths,
+        words: usize,
+        room: usize,
+    ) -> Result<AcceptedGrid, Refusal>
+        ensures number { answer_number result ≡ from_marks_number widths.now grid words room }
         ensures same { IfOk result (λ a. a.grid ≡ grid) }
     {
-        let grid = grid.check()?;
+        let grid = grid.check(widths)?;
         if !has_words(words, grid.blocks()) {
             return Err(Refusal::MarksTooShort);
         }
@@ -55,12 +61,13 @@ impl ImageDataMask {
     pub fn from_provided_blocks(
         marks: &[u64],
         grid: Grid,
+        widths: &Widths,
         out: &mut [u32],
     ) -> Result<ParsedMask, Refusal>
         ensures { marks_with (parsed_of result) out.new
-            ≡ from_provided_blocks grid marks.now out.old }
+            ≡ from_provided_blocks widths.now grid marks.now out.old }
     {
-        let grid = Self::check_marks(grid, marks.len(), out.len())?;
+        let grid = Self::check_marks(grid, widths, marks.len(), out.len())?;
         fill_records(marks, grid, out);
         let mask = Self {
             image_data_offset: 0,

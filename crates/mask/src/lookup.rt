@@ -9,6 +9,7 @@ use bits::bytes::get_be;
 use common::pick;
 use grid::{Grid, GridBlock};
 use refusals::Refusal;
+use widths::Widths;
 
 // The record that lookup takes for a band of a block; in S it is the Rust's index + band.
 fn lookup_record(block: GridBlock, band: u32) -> usize
@@ -25,14 +26,15 @@ impl ImageDataMask {
     pub fn find_record(
         table: &[u8],
         grid: Grid,
+        widths: &Widths,
         block_row: u32,
         block_col: u32,
         band: u32,
     ) -> Result<Option<u32>, Refusal>
-        ensures number { answer_number result ≡ lookup_number grid table.now block_row block_col band }
+        ensures number { answer_number result ≡ lookup_number widths.now grid table.now block_row block_col band }
         ensures record { IfOk result (λ r. r ≡ record_if_any grid table.now block_row block_col band) }
     {
-        let (grid, head) = Self::check_table(table, grid)?;
+        let (grid, head) = Self::check_table(table, grid, widths)?;
         let block = grid.block(block_row, block_col)?;
         if band >= grid.grid.bands {
             return Err(Refusal::NoSuchBand);
@@ -49,13 +51,14 @@ impl ImageDataMask {
     pub fn has_block(
         table: &[u8],
         grid: Grid,
+        widths: &Widths,
         block_row: u32,
         block_col: u32,
         band: u32,
     ) -> Result<bool, Refusal>
-        ensures { present_of result ≡ has_block grid table.now block_row block_col band }
+        ensures { present_of result ≡ has_block widths.now grid table.now block_row block_col band }
     {
-        let record = Self::find_record(table, grid, block_row, block_col, band)?;
+        let record = Self::find_record(table, grid, widths, block_row, block_col, band)?;
         Ok(record != Some(Self::EMPTY_BLOCK_OFFSET))
     }
 
@@ -63,13 +66,14 @@ impl ImageDataMask {
     pub fn get_block_offset(
         table: &[u8],
         grid: Grid,
+        widths: &Widths,
         block_row: u32,
         block_col: u32,
         band: u32,
     ) -> Result<Option<u32>, Refusal>
-        ensures { offset_of result ≡ get_block_offset grid table.now block_row block_col band }
+        ensures { offset_of result ≡ get_block_offset widths.now grid table.now block_row block_col band }
     {
-        let record = Self::find_record(table, grid, block_row, block_col, band)?;
+        let record = Self::find_record(table, grid, widths, block_row, block_col, band)?;
         Ok(record.filter(|offset| *offset != Self::EMPTY_BLOCK_OFFSET))
     }
 }

@@ -8,6 +8,7 @@ use crate::{ImageDataMask, ParsedMask, record_count};
 use bits::bytes::get_be;
 use grid::{AcceptedGrid, Grid};
 use refusals::Refusal;
+use widths::Widths;
 
 // Is this the length of records, or 0 for none?
 fn is_record_length(n: u16) -> bool
@@ -59,11 +60,15 @@ impl ImageDataMask {
     // The questions of a table: 1 to 4, 16 to 19. Gives the accepted grid, and the header without the pad code. Inlined,
     // as the grid's questions are.
     #[inline(always)]
-    pub fn check_table(table: &[u8], grid: Grid) -> Result<(AcceptedGrid, Self), Refusal>
-        ensures number { answer_number result ≡ parse_number grid table.now }
+    pub fn check_table(
+        table: &[u8],
+        grid: Grid,
+        widths: &Widths,
+    ) -> Result<(AcceptedGrid, Self), Refusal>
+        ensures number { answer_number result ≡ parse_number widths.now grid table.now }
         ensures header { IfOk result (IsChecked grid table.now) }
     {
-        let grid = grid.check()?;
+        let grid = grid.check(widths)?;
         if !Self::has_header(table) {
             return Err(Refusal::TableTooShort);
         }
@@ -81,10 +86,10 @@ impl ImageDataMask {
     }
 
     // Reads the header and the pad code of a table, and counts the bytes that it takes.
-    pub fn parse(table: &[u8], grid: Grid) -> Result<ParsedMask, Refusal>
-        ensures { parsed_of result ≡ parse_of grid table.now }
+    pub fn parse(table: &[u8], grid: Grid, widths: &Widths) -> Result<ParsedMask, Refusal>
+        ensures { parsed_of result ≡ parse_of widths.now grid table.now }
     {
-        let (grid, mut mask) = Self::check_table(table, grid)?;
+        let (grid, mut mask) = Self::check_table(table, grid, widths)?;
         let used = mask.table_bytes(grid);
         let size = mask.code_bytes();
         mask.pad_pixel_code = get_be(table, Self::HEADER_BYTES, size) as u32;

@@ -10,6 +10,7 @@ use bits::bytes::put_be;
 use common::pick;
 use grid::{AcceptedGrid, Grid};
 use refusals::Refusal;
+use widths::Widths;
 
 // Puts the offsets of a list at index `at` of `out` on, four bytes each.
 fn put_offsets(list: &[u32], out: &mut [u8], at: usize)
@@ -44,14 +45,15 @@ impl ImageDataMask {
     fn check_write(
         self,
         grid: Grid,
+        widths: &Widths,
         blocks: usize,
         pads: usize,
         room: usize,
     ) -> Result<usize, Refusal>
-        ensures number { answer_number result ≡ mask_write_number grid self blocks pads room }
+        ensures number { answer_number result ≡ mask_write_number widths.now grid self blocks pads room }
         ensures size { IfOk result (λ size. size ≡ mask_size grid self) }
     {
-        let grid = grid.check()?;
+        let grid = grid.check(widths)?;
         if !self.has_record_lengths() {
             return Err(Refusal::RecordLength);
         }
@@ -92,13 +94,15 @@ impl ImageDataMask {
         block_offsets: &[u32],
         pad_pixel_offsets: &[u32],
         grid: Grid,
+        widths: &Widths,
         out: &mut [u8],
     ) -> Result<usize, Refusal>
         ensures { written_with (written_of result) out.new
-            ≡ to_bytes grid self block_offsets.now pad_pixel_offsets.now out.old }
+            ≡ to_bytes widths.now grid self block_offsets.now pad_pixel_offsets.now out.old }
     {
         let size = self.check_write(
             grid,
+            widths,
             block_offsets.len(),
             pad_pixel_offsets.len(),
             out.len(),

@@ -7,6 +7,7 @@ use layout::InterleaveMode;
 use mask::ImageDataMask;
 use refusals::answer_number;
 use std::io;
+use widths::Widths;
 
 // Mode S, blocks of one byte: one record a block and band.
 fn sequential(nbpr: u32, nbpc: u32, bands: u32) -> Grid {
@@ -26,18 +27,19 @@ fn header(block: u16, pad: u16, bits: u16, code: u32) -> ImageDataMask {
 
 // What a write with no offsets and no room answers: 22 where the table may be written, 21 where it is too large.
 fn print_write(rt: &impl Print, label: &str, grid: Grid, mask: ImageDataMask) -> io::Result<()> {
-    let written = mask.to_bytes(&[], &[], grid, &mut []);
+    let written = mask.to_bytes(&[], &[], grid, &Widths::STANDARD, &mut []);
     println!(rt; "{label}: {}", answer_number(&written))
 }
 
 // 1,321 x 793 blocks of 1,025 bands are 1,073,741,825 records, of which four bytes each come to 4 in 32 bits.
 fn wrapped(rt: &impl Print) -> io::Result<()> {
     let grid = sequential(1_321, 793, 1_025);
+    let widths = Widths::STANDARD;
     let table = [0, 0, 0, 14, 0, 4, 0, 0, 0, 0, 0, 0, 0, 0];
-    let parsed = ImageDataMask::parse(&table, grid);
-    let present = ImageDataMask::has_block(&table, grid, 0, 0, 0);
-    let offset = ImageDataMask::get_block_offset(&table, grid, 0, 0, 0);
-    println!(rt; "grid: {}", answer_number(&grid.check()))?;
+    let parsed = ImageDataMask::parse(&table, grid, &widths);
+    let present = ImageDataMask::has_block(&table, grid, &widths, 0, 0, 0);
+    let offset = ImageDataMask::get_block_offset(&table, grid, &widths, 0, 0, 0);
+    println!(rt; "grid: {}", answer_number(&grid.check(&widths)))?;
     println!(rt; "parse: {}", answer_number(&parsed))?;
     println!(rt; "has_block: {}", answer_number(&present))?;
     println!(rt; "get_block_offset: {}", answer_number(&offset))?;

@@ -2,11 +2,12 @@
 use refusals::Refusal;
 use std::fmt;
 
-// The accepted and the refused calls of a kind.
+// The accepted and the refused calls of a kind, and those that are refused with 2.
 #[derive(Clone, Copy, Default)]
 pub struct Tally {
     accepted: usize,
     refused: usize,
+    barred: usize,
 }
 
 impl Tally {
@@ -14,7 +15,14 @@ impl Tally {
     pub fn add<T: Drop>(&mut self, answer: Result<T, Refusal>) {
         match answer {
             Ok(_) => self.accepted = self.accepted.saturating_add(1),
-            Err(_) => self.refused = self.refused.saturating_add(1),
+            Err(refusal) => self.refuse(refusal),
+        }
+    }
+
+    fn refuse(&mut self, refusal: Refusal) {
+        self.refused = self.refused.saturating_add(1);
+        if refusal == Refusal::Width {
+            self.barred = self.barred.saturating_add(1);
         }
     }
 }
@@ -54,7 +62,8 @@ impl Counts {
 
 fn write_tally<W: fmt::Write>(f: &mut fmt::Formatter<W>, calls: &str, t: Tally) -> fmt::Result {
     writeln!(f, "{calls} accepted {}", t.accepted)?;
-    writeln!(f, "{calls} refused {}", t.refused)
+    writeln!(f, "{calls} refused {}", t.refused)?;
+    writeln!(f, "of these with 2 {}", t.barred)
 }
 
 impl fmt::Display for Counts {

@@ -4,6 +4,7 @@ use crate::frame::Frame;
 use crate::picture::Picture;
 use crate::plain::Plain;
 use crate::random::Random;
+use crate::tables::some_table;
 
 // The lists that have run, and the plain frame of the one that runs.
 #[derive(Drop)]
@@ -25,16 +26,16 @@ impl Run {
 
     // One call on what is lent.
     fn call(&mut self, frame: &mut Frame<'_>) {
-        if self.random.seldom(30) {
-            self.relay(frame);
-            return;
-        }
-        match self.random.below(6) {
-            0 => self.skip(frame),
-            1 => self.progress(frame),
-            2 => self.finish(frame),
-            3 => self.window(frame.image),
-            _ => self.write(frame),
+        match self.random.below(63) {
+            0..20 => self.write(frame),
+            20..30 => self.skip(frame),
+            30..40 => self.progress(frame),
+            40..50 => self.finish(frame),
+            50..60 => self.window(frame),
+            60..62 => self.relay(frame),
+            _ => {
+                self.start(frame);
+            }
         }
     }
 
@@ -42,17 +43,21 @@ impl Run {
     fn lend_and_call(&mut self, image: &mut [u8], marks: &mut [u64]) {
         let n = self.random.size_or_less(image.len());
         let m = self.random.size_or_less(marks.len());
+        let widths = some_table(&mut self.random, self.plain.picture);
         self.call(&mut Frame {
             image: &mut image[..n],
             marks: &mut marks[..m],
+            widths: &widths,
         });
     }
 
     // A start, and sixty calls after it if it is accepted.
     fn start_and_call(&mut self, image: &mut [u8], marks: &mut [u64]) {
+        let widths = some_table(&mut self.random, self.plain.picture);
         let accepted = self.start(&mut Frame {
             image: &mut *image,
             marks: &mut *marks,
+            widths: &widths,
         });
         if !accepted {
             return;

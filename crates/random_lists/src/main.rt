@@ -12,6 +12,7 @@ mod plain;
 mod questions;
 mod random;
 mod reads;
+mod tables;
 mod writes;
 
 use crate::lists::Run;

@@ -7,6 +7,7 @@ use crate::plain::Plain;
 use calls::Extent;
 use grid::{EdgeRule, Grid};
 use refusals::Refusal;
+use widths::Widths;
 
 // What a write is told: the block, and the shape of its data.
 #[derive(Clone, Copy)]
@@ -28,16 +29,27 @@ impl Write {
 }
 
 impl Plain {
-    // Question 12.
+    // Question 2: the table's entry for the width has to be the bytes of a sample.
+    fn check_width(&self, widths: &Widths) -> Result<(), Refusal> {
+        let p = self.picture;
+        if widths.entries[p.nbpp] as usize != p.size() {
+            return Err(Refusal::Width);
+        }
+        Ok(())
+    }
+
+    // Questions 2 and 12.
     pub fn progress(&self, frame: &Frame<'_>) -> Result<usize, Refusal> {
+        self.check_width(frame.widths)?;
         if frame.marks.len() < self.picture.blocks().div_ceil(64) {
             return Err(Refusal::MarksTooShort);
         }
         Ok(self.count())
     }
 
-    // Questions 11 and 12.
-    pub fn start(&self, frame: &Frame<'_>) -> Result<(), Refusal> {
+    // Questions 2, 11 and 12.
+    fn check_buffers(&self, frame: &Frame<'_>) -> Result<(), Refusal> {
+        self.check_width(frame.widths)?;
         if frame.image.len() < self.picture.image_bytes() {
             return Err(Refusal::ImageTooShort);
         }
@@ -45,9 +57,16 @@ impl Plain {
         Ok(())
     }
 
-    // The same, then question 6.
+    // The same; after it all numbers are 0 and no block is reached.
+    pub fn start(&mut self, frame: &Frame<'_>) -> Result<(), Refusal> {
+        self.check_buffers(frame)?;
+        *self = Plain::new(self.picture);
+        Ok(())
+    }
+
+    // Questions 2, 11, 12 and 6.
     fn check_block(&self, frame: &Frame<'_>, row: usize, column: usize) -> Result<(), Refusal> {
-        self.start(frame)?;
+        self.check_buffers(frame)?;
         if row >= self.picture.down() || column >= self.picture.across() {
             return Err(Refusal::BlockOutsideGrid);
         }
@@ -79,18 +98,18 @@ impl Plain {
         Ok(())
     }
 
-    // Questions 11 and 12, then 15 of the reached blocks.
+    // Questions 2, 11 and 12, then 15 of the reached blocks.
     pub fn finish(&self, frame: &Frame<'_>) -> Result<(), Refusal> {
-        self.start(frame)?;
+        self.check_buffers(frame)?;
         match self.first() {
             Some((row, column)) => Err(Refusal::UnmarkedBlock { row, column }),
             None => Ok(()),
         }
     }
 
-    // Questions 11, 12 and 27, then 9 of a scratch of so many bytes; the picture is under full then.
+    // Questions 2, 11, 12 and 27, then 9 of a scratch of so many bytes; the picture is under full then.
     pub fn relay(&mut self, frame: &Frame<'_>, scratch: usize) -> Result<Grid, Refusal> {
-        self.start(frame)?;
+        self.check_buffers(frame)?;
         if self.picture.rule == EdgeRule::Full {
             return Err(Refusal::AlreadyFull);
         }
@@ -101,9 +120,16 @@ impl Plain {
         Ok(self.picture.grid())
     }
 
-    // Questions 10, 7, 8 and 9, for an image and an output of so many bytes.
-    pub fn window(&self, image: usize, w: Window<'_>, room: usize) -> Result<Extent, Refusal> {
+    // Questions 2, 10, 7, 8 and 9, for an image and an output of so many bytes.
+    pub fn window(
+        &self,
+        image: usize,
+        widths: &Widths,
+        w: Window<'_>,
+        room: usize,
+    ) -> Result<Extent, Refusal> {
         let p = self.picture;
+        self.check_width(widths)?;
         if w.rows < 1
             || w.columns < 1
             || w.row + w.rows > p.nrows

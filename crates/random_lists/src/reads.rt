@@ -2,11 +2,13 @@
 ghost use Rattle.std.specs.Prelude.{◌+◌, ◌≤◌};
 
 use crate::ends::Window;
+use crate::frame::Frame;
 use crate::lists::Run;
 use crate::picture::Picture;
 use crate::random::Random;
 use calls::Extent;
 use refusals::Refusal;
+use widths::Widths;
 use windows::Rectangle;
 
 // Each byte of an output before a call.
@@ -83,16 +85,16 @@ impl Run {
     }
 
     // A window into an output that holds BEFORE bytes.
-    fn read_window(&mut self, w: Window<'_>, image: &[u8], out: &mut [u8]) {
+    fn read_window(&mut self, w: Window<'_>, image: &[u8], widths: &Widths, out: &mut [u8]) {
         let p = self.plain.picture;
-        let plain = self.plain.window(image.len(), w, out.len());
+        let plain = self.plain.window(image.len(), widths, w, out.len());
         let area = Rectangle {
             row: w.row as u32,
             column: w.column as u32,
             rows: w.rows as u32,
             columns: w.columns as u32,
         };
-        let a = windows::read_window(image, p.grid(), area, w.bands, out);
+        let a = windows::read_window(image, p.grid(), widths, area, w.bands, out);
         self.counts.compare(a, plain);
         let wrong = self.wrong_output(w, plain, out);
         self.counts.differ(wrong);
@@ -105,7 +107,7 @@ impl Run {
 
     // A window of all bands or of up to three listed bands, now and then outside the picture, with a band too high, or
     // with an output or an image too short.
-    pub fn window(&mut self, image: &[u8]) {
+    pub fn window(&mut self, frame: &Frame<'_>) {
         let p = self.plain.picture;
         let random = &mut self.random;
         let bands = [
@@ -116,10 +118,10 @@ impl Run {
         let listed = random.below(4);
         let w = some_window(random, p, &bands[..listed]);
         let room = some_room(random, w.bytes(p));
-        let part = some_part(random, w.end(p), image.len());
+        let part = some_part(random, w.end(p), frame.image.len());
         let mut out = [BEFORE; 4096];
         if let Some(out) = out.get_mut(..room) {
-            self.read_window(w, &image[..part], out);
+            self.read_window(w, &frame.image[..part], frame.widths, out);
         }
     }
 }

@@ -78,7 +78,7 @@ impl Run {
     pub fn start(&mut self, frame: &mut Frame<'_>) -> bool {
         let plain = self.plain.start(frame);
         let grid = self.plain.picture.grid();
-        let a = writing::start(frame.image, frame.marks, grid);
+        let a = writing::start(frame.image, frame.marks, grid, frame.widths);
         self.counts.compare(a, plain);
         self.counts.starts.add(plain);
         plain.is_ok()
@@ -91,6 +91,7 @@ impl Run {
             frame.image,
             frame.marks,
             grid,
+            frame.widths,
             w.row as u32,
             w.column as u32,
             w.shape,
@@ -123,7 +124,14 @@ impl Run {
         let plain = self.plain.skip(frame, row, column);
         let image = &mut *frame.image;
         let marks = &mut *frame.marks;
-        let a = writing::skip_block(image, marks, p.grid(), row as u32, column as u32);
+        let a = writing::skip_block(
+            image,
+            marks,
+            p.grid(),
+            frame.widths,
+            row as u32,
+            column as u32,
+        );
         self.counts.compare(a, plain);
         self.counts.skips.add(plain);
     }
@@ -131,7 +139,7 @@ impl Run {
     pub fn progress(&mut self, frame: &Frame<'_>) {
         let plain = self.plain.progress(frame);
         let grid = self.plain.picture.grid();
-        let a = writing::progress(frame.marks, grid);
+        let a = writing::progress(frame.marks, grid, frame.widths);
         self.counts.compare(a, plain);
         self.counts.progresses.add(plain);
     }
@@ -139,7 +147,7 @@ impl Run {
     pub fn finish(&mut self, frame: &Frame<'_>) {
         let plain = self.plain.finish(frame);
         let grid = self.plain.picture.grid();
-        let a = writing::finalize(frame.image, frame.marks, grid);
+        let a = writing::finalize(frame.image, frame.marks, grid, frame.widths);
         self.counts.compare(a, plain);
         self.counts.finishes.add(plain);
     }
@@ -155,7 +163,7 @@ impl Run {
         let plain = self.plain.relay(frame, room);
         let image = &mut *frame.image;
         let marks = &mut *frame.marks;
-        let a = writing::relay(image, marks, p.grid(), scratch);
+        let a = writing::relay(image, marks, p.grid(), frame.widths, scratch);
         self.counts.compare(a, plain);
         self.counts.relays.add(plain);
         let cleared = if plain.is_ok() { needed } else { 0 };

@@ -11,8 +11,12 @@ use printing::{Hex, ReadAnswer};
 use refusals::answer_number;
 use std::fmt::Display;
 use std::io;
+use widths::Widths;
 
 const WIDTHS: [u32; 11] = [1, 4, 8, 11, 12, 16, 24, 31, 32, 40, 64];
+
+// The table of widths that each call is handed.
+static STANDARD: Widths = Widths::STANDARD;
 
 // The image's bytes: any numbers will do, if no two places look alike.
 fn image() -> [u8; 512] {
@@ -47,7 +51,7 @@ impl<'a> Picture<'a> {
     ) -> io::Result<()> {
         let mut out = [0xAAu8; 130];
         let grid = self.grid(mode, width);
-        let read = reader::read_block(self.image, grid, row, column, 0, None, &mut out);
+        let read = reader::read_block(self.image, grid, &STANDARD, row, column, 0, None, &mut out);
         let answer = ReadAnswer { read, out: &out };
         println!(rt; "{} {mode} {width} {row} {column} {answer}", self.edges)
     }
@@ -79,7 +83,16 @@ impl<'a> Picture<'a> {
         let mut out = [0xAAu8; 9];
         let out = &mut out[..room];
         let grid = self.grid(InterleaveMode::P, width);
-        let read = reading::decode_block(self.image, grid, row, 1, level, Some(bands), out);
+        let read = reading::decode_block(
+            self.image,
+            grid,
+            &STANDARD,
+            row,
+            1,
+            level,
+            Some(bands),
+            out,
+        );
         println!(rt; "{} {label} {}", self.edges, ReadAnswer { read, out })
     }
 
@@ -116,8 +129,8 @@ impl<'a> Picture<'a> {
         column: u32,
     ) -> io::Result<()> {
         let grid = self.grid(mode, 12);
-        let found = reading::whole::find_whole(self.image, grid, row, column);
-        let part = reading::whole::whole_block(self.image, grid, row, column);
+        let found = reading::whole::find_whole(self.image, grid, &STANDARD, row, column);
+        let part = reading::whole::whole_block(self.image, grid, &STANDARD, row, column);
         println!(rt;
             "{} whole {mode} 12 {row} {column} {} {}",
             self.edges,

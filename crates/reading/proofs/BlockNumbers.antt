@@ -8,6 +8,7 @@ use lib.Dec.{lit<}
 use Rattle.common.proofs.Questions.{ask-inv}
 use Rattle.layout.specs.Bands.{Bands, band_count, q8, q9}
 use Rattle.layout.proofs.Places.{data_fits}
+use Rattle.widths.specs.declared.Widths.{Widths}
 use Rattle.grid.specs.declared.Grid.{Grid}
 use Rattle.grid.specs.Check.{Accepted, q6}
 use Rattle.grid.specs.Sizes.{sample_bytes, actual_rows, actual_columns}
@@ -40,11 +41,11 @@ pub record Read (g : Grid) (n row column level : ℕ) (bs : Bands) (m : ℕ) : T
   pub bands_in : q8 g.bands bs ≡ true
   pub room : band_count g.bands bs * actual_rows g row * actual_columns g column * sample_bytes g ≤ m
 
-pub read-facts : (g : Grid) (n row column level : ℕ) (bs : Bands) (m : ℕ) → block_number g n row column level bs m ≡ 0
-    → Read g n row column level bs m
+pub read-facts : (ws : Widths) (g : Grid) (n row column level : ℕ) (bs : Bands) (m : ℕ)
+    → block_number ws g n row column level bs m ≡ 0 → Read g n row column level bs m
 unfolding block_number q9
-read-facts g n row column level bs m e =
-    let a = grid-inv g _ e in
+read-facts ws g n row column level bs m e =
+    let a = grid-inv ws g _ e in
     let b = ask-inv 5 (q5 level) _ (lit< tt) a.1 in
     let c = ask-inv 6 (q6 g row column) _ (lit< tt) b.1 in
     let d = ask-inv 7 (q7 g n row column) _ (lit< tt) c.1 in
@@ -65,10 +66,11 @@ pub record Whole (g : Grid) (n row column : ℕ) : Type 0 where
   pub block : Block g row column
   pub reached : whole_start g row column + whole_length g ≤ n
 
-pub whole-facts : (g : Grid) (n row column : ℕ) → whole_number g n row column ≡ 0 → Whole g n row column
+pub whole-facts : (ws : Widths) (g : Grid) (n row column : ℕ) → whole_number ws g n row column ≡ 0
+    → Whole g n row column
 unfolding whole_number
-whole-facts g n row column e =
-    let a = grid-inv g _ e in
+whole-facts ws g n row column e =
+    let a = grid-inv ws g _ e in
     let b = ask-inv 6 (q6 g row column) _ (lit< tt) a.1 in
     let c = ask-inv 7 (q7_whole g n row column) 0 (lit< tt) b.1 in
     record { accepted = accepted_of g a.0; block = block_in g row column b.0; reached = leb-true _ _ c.0 }

@@ -10,6 +10,7 @@ use Rattle.common.proofs.Questions.{outcome-yes}
 use Rattle.bits.specs.Bits.{bits_at}
 use Rattle.bits.proofs.Values.{values_ext}
 use Rattle.layout.specs.Bands.{Bands, band_count, band_at}
+use Rattle.widths.specs.declared.Widths.{Widths}
 use Rattle.grid.specs.declared.Grid.{Grid}
 use Rattle.grid.specs.Sizes.{sample_bytes, actual_rows, actual_columns}
 use Rattle.grid.specs.Internal.BlockLayouts.{layout_of}
@@ -40,13 +41,14 @@ planes_are g image row column bs hr hc =
     values_ext _ _ (sample_bytes g) _ (λ n _.
     ap (λ (x : ℕ). bits_at image x g.nbpp) (sym (place_is g row column _ _ _ (mod-lt (n / actual_columns g column) hr) (mod-lt n hc))))
 
-pub block-done : (g : Grid) (image : List ℕ) (row column level : ℕ) (bs : Bands) (out : List ℕ) {zs : List ℕ}
-    → block_number g (length image) row column level bs (length out) ≡ 0 → Read g (length image) row column level bs (length out)
+pub block-done : (ws : Widths) (g : Grid) (image : List ℕ) (row column level : ℕ) (bs : Bands) (out : List ℕ)
+    {zs : List ℕ} → block_number ws g (length image) row column level bs (length out) ≡ 0
+    → Read g (length image) row column level bs (length out)
     → zs ≡ over out 0 (planes_of (layout_of g row column) image bs)
     → filled_with (record { number = 0; bands = band_count g.bands bs; rows = actual_rows g row; columns = actual_columns g column }) zs
-    ≡ block_read g image row column level bs out
+    ≡ block_read ws g image row column level bs out
 unfolding block_read
-block-done g image row column level bs out e t ez =
+block-done ws g image row column level bs out e t ez =
     let f = facts g t.accepted in
     ap (filled_with _)
     (ez ∙ ap (over out 0) (planes_are g image row column bs (rows-pos g f row t.block.in_row) (columns-pos g f column t.block.in_column)))

@@ -15,6 +15,7 @@ use grid::{Grid, GridBlock};
 use layout::bands::{band_count, bands_below};
 use moves::part::read_planes;
 use refusals::Refusal;
+use widths::Widths;
 
 pub mod whole;
 
@@ -22,6 +23,7 @@ pub mod whole;
 fn find_block(
     image: usize,
     grid: Grid,
+    widths: &Widths,
     block_row: u32,
     block_col: u32,
     resolution_level: u32,
@@ -29,10 +31,10 @@ fn find_block(
     room: usize,
 ) -> Result<GridBlock, Refusal>
     ensures number { answer_number result
-        ≡ block_number grid image block_row block_col resolution_level (bands_in asked.entry) room }
+        ≡ block_number widths.now grid image block_row block_col resolution_level (bands_in asked.entry) room }
     ensures block { IfOk result (IsBlock grid block_row block_col) }
 {
-    let grid = grid.check()?;
+    let grid = grid.check(widths)?;
     if resolution_level != 0 {
         return Err(Refusal::ResolutionLevel);
     }
@@ -55,6 +57,7 @@ fn find_block(
 pub fn decode_block(
     image: &[u8],
     grid: Grid,
+    widths: &Widths,
     block_row: u32,
     block_col: u32,
     resolution_level: u32,
@@ -62,11 +65,12 @@ pub fn decode_block(
     out: &mut [u8],
 ) -> Result<Extent, Refusal>
     ensures { filled_with (shape_of result) out.new
-        ≡ block_read grid image.now block_row block_col resolution_level (bands_in asked.entry) out.old }
+        ≡ block_read widths.now grid image.now block_row block_col resolution_level (bands_in asked.entry) out.old }
 {
     let block = find_block(
         image.len(),
         grid,
+        widths,
         block_row,
         block_col,
         resolution_level,

@@ -1,6 +1,6 @@
 // Records that belong together over one image and its marks. Each answers whether the call gave what is recorded.
 use crate::answers::BEFORE;
-use crate::grids::{image_bytes, mark_words};
+use crate::grids::{STANDARD, image_bytes, mark_words};
 use crate::records::{Fault, Record};
 use calls::Extent;
 
@@ -20,7 +20,7 @@ impl Frame {
     }
 
     pub fn start(&mut self, r: &Record<'_>) -> bool {
-        let a = writing::start(&mut self.image, &mut self.marks, r.grid);
+        let a = writing::start(&mut self.image, &mut self.marks, r.grid, &STANDARD);
         r.has(a.map(|()| ([], 0)))
     }
 
@@ -35,6 +35,7 @@ impl Frame {
             &mut self.image,
             &mut self.marks,
             r.grid,
+            &STANDARD,
             row,
             column,
             shape,
@@ -45,17 +46,17 @@ impl Frame {
 
     pub fn skip(&mut self, r: &Record<'_>) -> Result<bool, Fault> {
         let ([row, column], _) = r.arguments::<2>()?;
-        let a = writing::skip_block(&self.image, &mut self.marks, r.grid, row, column);
+        let a = writing::skip_block(&self.image, &mut self.marks, r.grid, &STANDARD, row, column);
         Ok(r.has(a.map(|()| ([], 0))))
     }
 
     pub fn progress(&self, r: &Record<'_>) -> bool {
-        r.has(writing::progress(&self.marks, r.grid).map(|count| ([count], 0)))
+        r.has(writing::progress(&self.marks, r.grid, &STANDARD).map(|count| ([count], 0)))
     }
 
     // Beside an accepted finish the record has zeros.
     pub fn finish(&self, r: &Record<'_>) -> bool {
-        let a = writing::finalize(&self.image, &self.marks, r.grid);
+        let a = writing::finalize(&self.image, &self.marks, r.grid, &STANDARD);
         r.has(a.map(|()| ([0, 0], 0)))
     }
 

@@ -1,8 +1,12 @@
-// The grid of a record, and sizes from document 01, "Where a sample lies". A size that is too large for its type is
-// the largest number.
+// The grid of a record, the table of widths, and sizes from document 01, "Where a sample lies". A size that is too
+// large for its type is the largest number.
 use crate::records::Fault;
 use grid::{EdgeRule, Grid};
 use layout::InterleaveMode;
+use widths::Widths;
+
+// The table of widths that each call is handed; the original has no other.
+pub static STANDARD: Widths = Widths::STANDARD;
 
 // IMODE by the letter's code.
 fn mode_of(letter: u32) -> Result<InterleaveMode, Fault> {

@@ -1,5 +1,6 @@
 // Records of the image data mask table. Each answers whether the call gave what is recorded.
 use crate::answers::BEFORE;
+use crate::grids::STANDARD;
 use crate::records::{Fault, Record};
 use mask::{ImageDataMask, ParsedMask};
 use std::alloc::Global;
@@ -27,7 +28,7 @@ fn parsed_values(p: ParsedMask) -> [usize; 6] {
 }
 
 pub fn parse(r: &Record<'_>) -> bool {
-    r.has(ImageDataMask::parse(r.input, r.grid).map(|p| (parsed_values(p), 0)))
+    r.has(ImageDataMask::parse(r.input, r.grid, &STANDARD).map(|p| (parsed_values(p), 0)))
 }
 
 // An argument of two bytes.
@@ -47,7 +48,7 @@ pub fn write(r: &Record<'_>, out: &mut [u8]) -> Result<bool, Fault> {
         pad_pixel_code_length: short(code_length),
         pad_pixel_code: code,
     };
-    let written = m.to_bytes(blocks, pads, r.grid, out);
+    let written = m.to_bytes(blocks, pads, r.grid, &STANDARD, out);
     Ok(r.has(written.map(|bytes| ([], bytes))) && r.fills(out))
 }
 
@@ -63,8 +64,8 @@ fn lookup_values(present: bool, offset: Option<u32>) -> [usize; 3] {
 // A lookup is both of the library's calls, which have one refusal.
 pub fn lookup(r: &Record<'_>) -> Result<bool, Fault> {
     let ([row, column, band], _) = r.arguments::<3>()?;
-    let block = ImageDataMask::has_block(r.input, r.grid, row, column, band);
-    let place = ImageDataMask::get_block_offset(r.input, r.grid, row, column, band);
+    let block = ImageDataMask::has_block(r.input, r.grid, &STANDARD, row, column, band);
+    let place = ImageDataMask::get_block_offset(r.input, r.grid, &STANDARD, row, column, band);
     Ok(match (block, place) {
         (Ok(present), Ok(offset)) => r.has(Ok((lookup_values(present, offset), 0))),
         (Err(one), Err(other)) => one == other && r.refuses(one),
@@ -79,7 +80,7 @@ pub fn from_marks(alloc: Global, r: &Record<'_>) -> Result<bool, Fault> {
         *mark = u64::from_be_bytes(*bytes);
     }
     let mut offsets = [u32::from_be_bytes([BEFORE; 4]); 256];
-    let made = ImageDataMask::from_provided_blocks(&marks, r.grid, &mut offsets);
+    let made = ImageDataMask::from_provided_blocks(&marks, r.grid, &STANDARD, &mut offsets);
     let answer = made.map(|p| (lengths(p.mask), p.used.saturating_mul(4)));
     let out = offsets
         .iter()

@@ -1,5 +1,5 @@
 // Records of block reads, whole blocks and windows. Each answers whether the call gave what is recorded.
-use crate::grids::sample_bytes;
+use crate::grids::{STANDARD, sample_bytes};
 use crate::records::{Fault, Record, bands_of};
 use calls::Extent;
 use windows::Rectangle;
@@ -15,7 +15,7 @@ fn extent_bytes(e: Extent, size: usize) -> usize {
 pub fn block_read(r: &Record<'_>, out: &mut [u8]) -> Result<bool, Fault> {
     let ([row, column, level], list) = r.arguments::<3>()?;
     let bands = bands_of(list)?;
-    let read = reading::decode_block(r.input, r.grid, row, column, level, bands, out);
+    let read = reading::decode_block(r.input, r.grid, &STANDARD, row, column, level, bands, out);
     let size = sample_bytes(r.grid);
     let answer = read.map(|e| ([e.bands, e.rows, e.columns], extent_bytes(e, size)));
     Ok(r.has(answer) && r.fills(out))
@@ -23,8 +23,8 @@ pub fn block_read(r: &Record<'_>, out: &mut [u8]) -> Result<bool, Fault> {
 
 pub fn whole_block(r: &Record<'_>) -> Result<bool, Fault> {
     let ([row, column], _) = r.arguments::<2>()?;
-    let span = reading::whole::find_whole(r.input, r.grid, row, column);
-    let whole = reading::whole::whole_block(r.input, r.grid, row, column);
+    let span = reading::whole::find_whole(r.input, r.grid, &STANDARD, row, column);
+    let whole = reading::whole::whole_block(r.input, r.grid, &STANDARD, row, column);
     Ok(r.has(span.map(|s| ([], s.length))) && whole == r.output)
 }
 
@@ -36,7 +36,7 @@ pub fn window(r: &Record<'_>, out: &mut [u8]) -> Result<bool, Fault> {
         rows,
         columns,
     };
-    let read = windows::read_window(r.input, r.grid, area, bands_of(list)?, out);
+    let read = windows::read_window(r.input, r.grid, &STANDARD, area, bands_of(list)?, out);
     let size = sample_bytes(r.grid);
     Ok(r.has(read.map(|e| ([], extent_bytes(e, size)))) && r.fills(out))
 }

@@ -8,7 +8,7 @@ use Rattle.refusals.specs.declared.Refusal.TheVariants.{BlockOutsideGrid, ImageE
 use Rattle.refusals.specs.declared.Refusal.TheVariants.{WindowOutsidePicture, ImageTooShort, MarksTooShort, OtherShape}
 use Rattle.refusals.specs.declared.Refusal.TheVariants.{DataLength, UnmarkedBlock, TableTooShort, RecordLength}
 use Rattle.refusals.specs.declared.Refusal.TheVariants.{PadCodeLength, TableEnds, PadCode, TableTooLarge, OffsetCount}
-use Rattle.refusals.specs.declared.Refusal.TheVariants.{SubheaderPart, NamedValue, SampleBits, AlreadyFull, NoMode}
+use Rattle.refusals.specs.declared.Refusal.TheVariants.{SubheaderPart, NamedValue, SampleBits, AlreadyFull, WidthTable, NoMode}
 use Rattle.refusals.specs.Refusals.{number_of}
 
 pub number-pos : (refusal : Refusal) → 0 < number_of refusal
@@ -37,6 +37,7 @@ number-pos SubheaderPart = lit< tt
 number-pos NamedValue = lit< tt
 number-pos SampleBits = lit< tt
 number-pos AlreadyFull = lit< tt
+number-pos WidthTable = lit< tt
 number-pos NoMode = lit< tt
 number-pos (UnmarkedBlock row column) = lit< tt
 

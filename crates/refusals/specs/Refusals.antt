@@ -7,7 +7,7 @@ use Rattle.refusals.specs.declared.Refusal.TheVariants.{BlockOutsideGrid, ImageE
 use Rattle.refusals.specs.declared.Refusal.TheVariants.{WindowOutsidePicture, ImageTooShort, MarksTooShort, OtherShape}
 use Rattle.refusals.specs.declared.Refusal.TheVariants.{DataLength, UnmarkedBlock, TableTooShort, RecordLength}
 use Rattle.refusals.specs.declared.Refusal.TheVariants.{PadCodeLength, TableEnds, PadCode, TableTooLarge, OffsetCount}
-use Rattle.refusals.specs.declared.Refusal.TheVariants.{SubheaderPart, NamedValue, SampleBits, AlreadyFull, NoMode}
+use Rattle.refusals.specs.declared.Refusal.TheVariants.{SubheaderPart, NamedValue, SampleBits, AlreadyFull, WidthTable, NoMode}
 
 -- the number of the question that is answered no
 abbrev pub number_of : Refusal → ℕ
@@ -37,6 +37,7 @@ number_of SubheaderPart = 23
 number_of NamedValue = 24
 number_of SampleBits = 26
 number_of AlreadyFull = 27
+number_of WidthTable = 33
 number_of NoMode = 99
 
 -- the number of an answer: 0 where the call is accepted

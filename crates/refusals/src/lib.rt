@@ -11,7 +11,8 @@ use std::fmt;
 pub enum Refusal {
     // 1: NROWS, NCOLS, NPPBH, NPPBV or the count of bands is outside its limits.
     Limits,
-    // 2: NBPP is no width that is taken; in a reordering, a sample does not have 1 to 8 bytes.
+    // 2: NBPP is no width that is taken, or the width table bars it; in a reordering, a sample does not have 1 to 8
+    // bytes.
     Width,
     // 3: NBPR or NBPC does not follow from the rest, or is more than 9,999.
     BlockCounts,
@@ -61,6 +62,8 @@ pub enum Refusal {
     SampleBits,
     // 27: the edge rule is full already.
     AlreadyFull,
+    // 33: a width table to load does not have 68 bytes, or its length, its version or an entry is wrong.
+    WidthTable,
     // 99: a byte that is no mode, or no edge rule.
     NoMode,
 }
@@ -97,6 +100,7 @@ impl Refusal {
             Self::NamedValue => 24,
             Self::SampleBits => 26,
             Self::AlreadyFull => 27,
+            Self::WidthTable => 33,
             Self::NoMode => 99,
         }
     }

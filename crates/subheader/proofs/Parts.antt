@@ -9,10 +9,12 @@ use lib.Dec.{leb, lit<}
 use Rattle.subheader.specs.declared.ImageSubheader.{ImageSubheader}
 use Rattle.subheader.specs.Subheader.{parts_fit, first_numbers, third_numbers, q23, q24_write, q9_write, write_number}
 use Rattle.subheader.specs.Internal.Parts.{Numbered}
+use Rattle.widths.specs.declared.Widths.{Widths}
+use Rattle.widths.specs.Widths.{takes}
 use Rattle.grid.specs.Check.{Accepted}
 use Rattle.common.proofs.Tests.{every-at}
 use Rattle.common.proofs.Questions.{ask-inv}
-use Rattle.grid.proofs.Accepted.{grid-inv, accepted_of}
+use Rattle.grid.proofs.Accepted.{grid-inv, accepted_of, takes-width}
 
 pub record Lengths (a b c : ℕ) : Type 0 where
   pub first : a ≡ 38
@@ -47,22 +49,24 @@ numbered first second third e =
     }
 
 -- what an accepted write tells
-pub record Held (s : ImageSubheader) (a b c : ℕ) : Type 0 where
+pub record Held (ws : Widths) (s : ImageSubheader) (a b c : ℕ) : Type 0 where
   pub abpp-le : s.abpp ≤ 99
   pub accepted : Accepted s.grid
+  pub taken : takes ws s.grid.nbpp ≡ true
   pub first : 38 ≤ a
   pub second : 2 ≤ b
   pub third : 19 ≤ c
 
-pub held : (s : ImageSubheader) (a b c : ℕ) → write_number s a b c ≡ 0 → Held s a b c
+pub held : (ws : Widths) (s : ImageSubheader) (a b c : ℕ) → write_number ws s a b c ≡ 0 → Held ws s a b c
 unfolding write_number q24_write q9_write
-held s a b c e =
+held ws s a b c e =
     let q = ask-inv 24 (leb s.abpp 99) _ (lit< tt) e in
-    let g = grid-inv s.grid _ q.1 in
+    let g = grid-inv ws s.grid _ q.1 in
     let h = every-at _ (ask-inv 9 _ 0 (lit< tt) g.1).0 in
     record {
       abpp-le = leb-true _ _ q.0;
       accepted = accepted_of s.grid g.0;
+      taken = takes-width ws s.grid _ q.1;
       first = leb-true _ _ (h 0);
       second = leb-true _ _ (h 1);
       third = leb-true _ _ (h 2);

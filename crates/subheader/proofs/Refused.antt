@@ -11,6 +11,7 @@ use Rattle.common.proofs.Questions.{ask-yes, ask-inv, refused-by}
 use Rattle.refusals.specs.declared.Refusal.{Refusal}
 use Rattle.refusals.proofs.Numbers.{number-pos}
 use Rattle.refusals.specs.Refusals.{number_of}
+use Rattle.widths.specs.declared.Widths.{Widths}
 use Rattle.grid.specs.declared.EdgeRule.{EdgeRule}
 use Rattle.grid.specs.Check.{grid_number}
 use Rattle.subheader.specs.declared.ImageSubheader.{ImageSubheader}
@@ -31,21 +32,21 @@ ask_accepted n b rest h e = ask-yes n rest (ask-inv n b 0 h (sym e)).0
 
 -- ---- the reader's
 
-module _ (first second third : List ℕ) (bands : ℕ) (edges : EdgeRule) where
+module _ (ws : Widths) (first second third : List ℕ) (bands : ℕ) (edges : EdgeRule) where
   pub read_parts_refused : (r : Refusal) → number_of r ≡ ask 23 (q23 first second third) 0
-      → number_of r ≡ read_number first second third bands edges
+      → number_of r ≡ read_number ws first second third bands edges
   unfolding read_number
   read_parts_refused r e = ask_refused r 23 _ _ e
 
   pub read_names_refused : (r : Refusal) → 0 ≡ ask 23 (q23 first second third) 0
-      → number_of r ≡ ask 24 (q24 first second third) 0 → number_of r ≡ read_number first second third bands edges
+      → number_of r ≡ ask 24 (q24 first second third) 0 → number_of r ≡ read_number ws first second third bands edges
   unfolding read_number
   read_names_refused r parts e = ask_refused r 24 _ _ e ∙ sym (ask_accepted 23 _ _ (lit< tt) parts)
 
   pub read_grid_asked : {s : ImageSubheader} → 0 ≡ ask 23 (q23 first second third) 0
       → 0 ≡ ask 24 (q24 first second third) 0 → s ≡ fields_in first second third bands edges
-      → grid_number s.grid ≡ read_number first second third bands edges
+      → grid_number ws s.grid ≡ read_number ws first second third bands edges
   unfolding read_number grid_number
   read_grid_asked parts names e =
-      ap (λ (x : ImageSubheader). grid_number x.grid) e
+      ap (λ (x : ImageSubheader). grid_number ws x.grid) e
       ∙ sym (ask_accepted 23 _ _ (lit< tt) parts ∙ ask_accepted 24 _ _ (lit< tt) names)

@@ -1,7 +1,8 @@
--- A written subheader reads as the same fields; a read one, written again, reads as the same.
+-- A written subheader reads as the same fields, or is refused by 2 with a table that bars its width; a read one, written
+-- again, reads as the same.
 -- Assumes nothing.
 use mathlib.Core.Path.{◌≡◌, refl, sym, ap, ◌∙◌}
-use mathlib.Core.Bool.{true}
+use mathlib.Core.Bool.{Bool, true, false}
 use mathlib.Core.List.{List, []}
 use Prim.Native.Nat.{ℕ, ◌+◌, ◌^◌, ◌≤◌, ◌<◌}
 use native.Mathlib.Decide.{dec_lt}
@@ -10,16 +11,19 @@ use borrow.Author.Tests.{le-leb, lt-leb, eq-eqb, ne_eqb}
 use lib.Dec.{lit<}
 use lib.ListN.{length, get_or, take}
 use lib.Seq.{length-take-le}
+use Rattle.common.specs.Questions.{outcome}
 use Rattle.common.specs.Tests.{every, pick}
 use Rattle.common.specs.Rounding.{ceil_div}
 use Rattle.common.proofs.Arith.{part-start, ceil_pos}
 use Rattle.common.proofs.Questions.{ask-yes, ask-inv, outcome-yes, outcome-zero}
+use Rattle.common.proofs.Tests.{pick_yes}
 use Rattle.layout.specs.declared.InterleaveMode.TheVariants.{B}
+use Rattle.widths.specs.declared.Widths.{Widths}
+use Rattle.widths.specs.Widths.{takes}
 use Rattle.grid.specs.declared.EdgeRule.{EdgeRule}
-use Rattle.grid.specs.declared.Grid.{Grid}
 use Rattle.grid.specs.Sizes.{band_bytes}
 use Rattle.grid.specs.Check.{q1, q3, q4, Accepted, ask_grid, grid_number}
-use Rattle.grid.proofs.Accepted.{Side, block-sides, answered, facts, grid-yes}
+use Rattle.grid.proofs.Accepted.{Side, block-sides, answered, facts, grid-yes, grid-open, grid_barred}
 use Rattle.digits.specs.Digits.{are_digits, number_of, digit_bytes}
 use Rattle.digits.proofs.Digits.{length-digit_bytes, digits_are, number_of_digits, number_lt}
 use Rattle.fields.specs.declared.named.PixelValueType.TheVariants.{UnsignedInt}
@@ -33,9 +37,10 @@ use Rattle.fields.specs.Fields.{field, number, bytes_in, is_number, number_in, E
 use Rattle.fields.specs.Fields.{ICAT, ABPP, PJUST, IC, IMODE, NBPR, NBPC, NPPBH, NPPBV, NBPP, text}
 use Rattle.fields.specs.Sides.{effective, written_side}
 use Rattle.subheader.specs.Subheader.{ReadSubheader, parts_fit, first_numbers, third_numbers, q23, q24}
-use Rattle.subheader.specs.Subheader.{grid_of_parts, fields_in, read_number, read_as, read_subheader, write_number}
-use Rattle.subheader.specs.Subheader.{q24_write, first_entries, second_entries, third_entries, PartsOut, write_subheader}
-use Rattle.subheader.specs.RoundTrip.{RuleNotWritten, Eights, read_back, WrittenReadsBack, ReadWrittenAgain}
+use Rattle.subheader.specs.Subheader.{grid_of_parts, fields_in, read_number, no_subheader, read_as, read_subheader}
+use Rattle.subheader.specs.Subheader.{write_number, q24_write, first_entries, second_entries, third_entries, PartsOut, write_subheader}
+use Rattle.subheader.specs.RoundTrip.{RuleNotWritten, Eights, read_back}
+use Rattle.subheader.specs.RoundTrip.{WrittenReadsBack, OtherWidthsReadBack, ReadWrittenAgain}
 use Rattle.fields.proofs.Entries.{Fits, Laid, laid_reads, length-put_all, length-bytes_in, bytes_in-front}
 use Rattle.fields.proofs.Values.{pvtype_back, pjust_back, ic_back, imode_back}
 use Rattle.subheader.proofs.Parts.{held, Held, numbered}
@@ -163,7 +168,7 @@ front_reads m n part es l h t i k f =
     let e : length (put_all part es) ≡ n = length-put_all n 0 part es l t in
     bytes_in-front (put_all part es) m (get_or es i none).place f (omega (arith, h, e)) ∙ laid_reads n 0 part es none l t i k
 
-written : (s : ImageSubheader) (a b c : List ℕ) → Eights s → Held s (length a) (length b) (length c)
+written : {ws : Widths} (s : ImageSubheader) (a b c : List ℕ) → Eights s → Held ws s (length a) (length b) (length c)
     → Written s (take 38 (put_all a (first_entries s))) (take 2 (put_all b (second_entries s))) (take 19 (put_all c (third_entries s)))
 written s a b c t h =
     let la = first-laid s (length a) t h.first in
@@ -252,40 +257,57 @@ module _ (s : ImageSubheader) (first second third : List ℕ) (w : Written s fir
         ap (is_named imode_text imodes) w.imode ∙ (imode_back s.grid.imode).0,
       )
 
-  read_back_lem : read_subheader first second third s.grid.bands s.grid.edges ≡ read_as 0 s
-  unfolding read_subheader read_number grid_number
-  read_back_lem =
-      let e : grid_of_parts first third s.grid.bands s.grid.edges ≡ s.grid = ap (λ (x : ImageSubheader). x.grid) fields_back in
-      let n : read_number first second third s.grid.bands s.grid.edges ≡ 0 =
-      ask-yes 23 _ parts_back ∙ ask-yes 24 _ named_back ∙ ap (λ (g : Grid). ask_grid g 0) e ∙ acc in
-      outcome-yes _ _ n ∙ ap (read_as 0) fields_back
+  -- read with another table, whose question 2 decides
+  read_back_lem : (vs : Widths) → read_subheader vs first second third s.grid.bands s.grid.edges
+      ≡ pick (takes vs s.grid.nbpp) (read_as 0 s) (read_as 2 no_subheader)
+  unfolding read_subheader read_number outcome pick
+  read_back_lem vs = go (takes vs s.grid.nbpp) refl
+    where
+      number-is : read_number vs first second third s.grid.bands s.grid.edges ≡ ask_grid vs s.grid 0
+      number-is =
+          ask-yes 23 _ parts_back ∙ ask-yes 24 _ named_back
+          ∙ ap (λ (x : ImageSubheader). ask_grid vs x.grid 0) fields_back
+
+      go : (b : Bool) → takes vs s.grid.nbpp ≡ b → read_subheader vs first second third s.grid.bands s.grid.edges
+          ≡ pick b (read_as 0 s) (read_as 2 no_subheader)
+      go true e = rw (number-is ∙ grid-open vs s.grid 0 acc e) (ap (read_as 0) fields_back)
+      go false e = rw (number-is ∙ grid_barred vs s.grid 0 acc e)
 
 -- ---- the theorems
 
-write-accepted : (s : ImageSubheader) (a b c : List ℕ) → write_number s (length a) (length b) (length c) ≡ 0 → (write_subheader s a b c).number ≡ 0
+-- the questions of an accepted write
+write-accepted : (ws : Widths) (s : ImageSubheader) (a b c : List ℕ) → (write_subheader ws s a b c).number ≡ 0
+    → write_number ws s (length a) (length b) (length c) ≡ 0
 unfolding write_subheader
-write-accepted s a b c n = ap (λ (o : PartsOut). o.number) (outcome-yes _ _ n)
+write-accepted ws s a b c e = outcome-zero _ _ _ (λ (o : PartsOut). o.number) (λ k. refl) e
 
-pub written_reads_back : WrittenReadsBack
+pub other_widths_read_back : OtherWidthsReadBack
 unfolding write_subheader
-written_reads_back s first second third t e =
-    let n : write_number s (length first) (length second) (length third) ≡ 0 =
-    outcome-zero _ _ _ (λ (o : PartsOut). o.number) (λ k. refl) e in
-    let h = held s (length first) (length second) (length third) n in
-    ap (λ (o : PartsOut). read_back o s.grid.bands s.grid.edges) (outcome-yes _ _ n)
-    ∙ read_back_lem s _ _ _ (written s first second third t h) h.abpp-le h.accepted
+other_widths_read_back ws vs s first second third t e =
+    let n = write-accepted ws s first second third e in
+    let h = held ws s (length first) (length second) (length third) n in
+    ap (λ (o : PartsOut). read_back vs o s.grid.bands s.grid.edges) (outcome-yes _ _ n)
+    ∙ read_back_lem s _ _ _ (written s first second third t h) h.abpp-le h.accepted vs
+
+-- the table that the write was handed takes the width
+pub written_reads_back : WrittenReadsBack
+written_reads_back ws s first second third t e =
+    let n = write-accepted ws s first second third e in
+    other_widths_read_back ws ws s first second third t e ∙ pick_yes _ _ (held ws s _ _ _ n).taken
 
 -- a read subheader: its fields, and that they can be written
-record Read (first second third : List ℕ) (bands : ℕ) (edges : EdgeRule) : Type 0 where
-  is : read_subheader first second third bands edges ≡ read_as 0 (fields_in first second third bands edges)
+record Read (ws : Widths) (first second third : List ℕ) (bands : ℕ) (edges : EdgeRule) : Type 0 where
+  is : read_subheader ws first second third bands edges ≡ read_as 0 (fields_in first second third bands edges)
   eights : Eights (fields_in first second third bands edges)
   abpp-le : number_in first ABPP ≤ 99
-  accepted : Accepted (grid_of_parts first third bands edges)
+  accepted : grid_number ws (grid_of_parts first third bands edges) ≡ 0
 
-read : (first second third : List ℕ) (bands : ℕ) (edges : EdgeRule) → (read_subheader first second third bands edges).number ≡ 0 → Read first second third bands edges
+read : (ws : Widths) (first second third : List ℕ) (bands : ℕ) (edges : EdgeRule)
+    → (read_subheader ws first second third bands edges).number ≡ 0 → Read ws first second third bands edges
 unfolding read_subheader read_number grid_number
-read first second third bands edges e =
-    let n : read_number first second third bands edges ≡ 0 = outcome-zero _ _ _ (λ (r : ReadSubheader). r.number) (λ k. refl) e in
+read ws first second third bands edges e =
+    let n : read_number ws first second third bands edges ≡ 0 =
+    outcome-zero _ _ _ (λ (r : ReadSubheader). r.number) (λ k. refl) e in
     let a = ask-inv 23 (q23 first second third) _ (lit< tt) n in
     let b = ask-inv 24 (q24 first second third) _ (lit< tt) a.1 in
     let d = numbered first second third a.0 in
@@ -302,15 +324,15 @@ read first second third bands edges e =
     }
 
 pub read-written_again : ReadWrittenAgain
-unfolding write_number q24_write
-read-written_again first second third bands edges a b c e room =
-    let r = read first second third bands edges e in
+unfolding write_subheader write_number q24_write
+read-written_again ws first second third bands edges a b c e room =
+    let r = read ws first second third bands edges e in
     let s = fields_in first second third bands edges in
-    let n : write_number s (length a) (length b) (length c) ≡ 0 =
-    ask-yes 24 _ (le-leb _ _ r.abpp-le) ∙ grid-yes s.grid _ r.accepted ∙ ask-yes 9 _ room in
-    let z : (write_subheader s a b c).number ≡ 0 = write-accepted s a b c n in
-    rw r.is (z, written_reads_back s a b c r.eights z)
+    let n : write_number ws s (length a) (length b) (length c) ≡ 0 =
+    ask-yes 24 _ (le-leb _ _ r.abpp-le) ∙ grid-yes ws s.grid _ r.accepted ∙ ask-yes 9 _ room in
+    let z : (write_subheader ws s a b c).number ≡ 0 = ap (λ (o : PartsOut). o.number) (outcome-yes _ _ n) in
+    rw r.is (z, written_reads_back ws s a b c r.eights z)
 
 pub rule_not_written : RuleNotWritten
 unfolding write_subheader write_number q24_write q1 q3 q4 band_bytes
-rule_not_written e s first second third = refl
+rule_not_written ws e s first second third = refl

@@ -8,6 +8,7 @@ use Rattle.refusals.specs.declared.Refusal.{Refusal}
 use Rattle.refusals.specs.Refusals.{number_of}
 use Rattle.grid.specs.declared.EdgeRule.{EdgeRule}
 use Rattle.grid.specs.declared.EdgeRule.TheVariants.{Tight}
+use Rattle.widths.specs.declared.Widths.{Widths}
 use Rattle.grid.specs.declared.Grid.{Grid}
 use Rattle.grid.specs.Check.{ask_grid}
 use Rattle.fields.specs.declared.named.PixelValueType.TheVariants.{UnsignedInt}
@@ -91,9 +92,10 @@ fields_in first second third bands edges =
     }
 
 -- 23, 24, then 1, 2, 3, 4
-unfoldable pub read_number : List ℕ → List ℕ → List ℕ → ℕ → EdgeRule → ℕ
-read_number first second third bands edges =
-    ask 23 (q23 first second third) (ask 24 (q24 first second third) (ask_grid (grid_of_parts first third bands edges) 0))
+unfoldable pub read_number : Widths → List ℕ → List ℕ → List ℕ → ℕ → EdgeRule → ℕ
+read_number ws first second third bands edges =
+    ask 23 (q23 first second third)
+    (ask 24 (q24 first second third) (ask_grid ws (grid_of_parts first third bands edges) 0))
 
 -- what stands beside a refusal: zeros, and of PVTYPE, PJUST, IC, IMODE and the edge rule the first value
 abbrev pub no_grid : Grid
@@ -137,9 +139,9 @@ read_as_of (Ok subheader) = read_as 0 subheader
 read_as_of (Err refusal) = read_as (number_of refusal) no_subheader
 
 -- the reader
-unfoldable pub read_subheader : List ℕ → List ℕ → List ℕ → ℕ → EdgeRule → ReadSubheader
-read_subheader first second third bands edges =
-    outcome (read_number first second third bands edges)
+unfoldable pub read_subheader : Widths → List ℕ → List ℕ → List ℕ → ℕ → EdgeRule → ReadSubheader
+read_subheader ws first second third bands edges =
+    outcome (read_number ws first second third bands edges)
     (read_as 0 (fields_in first second third bands edges))
     (λ n. read_as n no_subheader)
 
@@ -154,8 +156,8 @@ unfoldable pub q9_write : ℕ → ℕ → ℕ → Bool
 q9_write a b c = every (leb 38 a ∷ leb 2 b ∷ leb 19 c ∷ [])
 
 -- 24, then 1, 2, 3, 4, then 9
-unfoldable pub write_number : ImageSubheader → ℕ → ℕ → ℕ → ℕ
-write_number s a b c = ask 24 (q24_write s) (ask_grid s.grid (ask 9 (q9_write a b c) 0))
+unfoldable pub write_number : Widths → ImageSubheader → ℕ → ℕ → ℕ → ℕ
+write_number ws s a b c = ask 24 (q24_write s) (ask_grid ws s.grid (ask 9 (q9_write a b c) 0))
 
 -- what is to stand in the first part
 abbrev pub side_entries : ImageSubheader → List Entry
@@ -195,8 +197,8 @@ abbrev pub parts_out : ℕ → List ℕ → List ℕ → List ℕ → PartsOut
 parts_out n first second third = record { number = n; first = first; second = second; third = third }
 
 -- the writer: each part at the front of its output
-unfoldable pub write_subheader : ImageSubheader → List ℕ → List ℕ → List ℕ → PartsOut
-write_subheader s first second third =
-    outcome (write_number s (length first) (length second) (length third))
+unfoldable pub write_subheader : Widths → ImageSubheader → List ℕ → List ℕ → List ℕ → PartsOut
+write_subheader ws s first second third =
+    outcome (write_number ws s (length first) (length second) (length third))
     (parts_out 0 (put_all first (first_entries s)) (put_all second (second_entries s)) (put_all third (third_entries s)))
     (λ n. parts_out n first second third)

@@ -15,6 +15,7 @@ use fields::named::Named;
 use fields::sides::effective_side;
 use grid::{EdgeRule, Grid};
 use refusals::Refusal;
+use widths::Widths;
 
 // Have the parts their lengths?
 #[tactic(auto, unfolding(crate::specs::Subheader::parts_fit, common::specs::Tests::every))]
@@ -164,12 +165,13 @@ impl ImageSubheader {
         third: &[u8],
         bands: u32,
         edges: EdgeRule,
+        widths: &Widths,
     ) -> Result<Self, Refusal>
         ensures { read_as_of result
-            ≡ read_subheader first.now second.now third.now bands edges }
+            ≡ read_subheader widths.now first.now second.now third.now bands edges }
     {
         let subheader = Parts::new(first, second, third)?.fields(bands, edges)?;
-        subheader.grid.check()?;
+        subheader.grid.check(widths)?;
         Ok(subheader)
     }
 }

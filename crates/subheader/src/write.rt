@@ -12,6 +12,7 @@ use fields::Field;
 use fields::named::Named;
 use fields::sides::written_side;
 use refusals::Refusal;
+use widths::Widths;
 
 // Question 9: do so many bytes hold the parts?
 #[tactic(auto, unfolding(crate::specs::Subheader::q9_write, common::specs::Tests::every))]
@@ -25,13 +26,19 @@ fn parts_hold(first: usize, second: usize, third: usize) -> bool
 
 impl ImageSubheader {
     // The questions of the writer: 24, 1 to 4, and 9, for so many bytes of each part.
-    fn check_write(self, first: usize, second: usize, third: usize) -> Result<(), Refusal>
-        ensures { answer_number result ≡ write_number self first second third }
+    fn check_write(
+        self,
+        widths: &Widths,
+        first: usize,
+        second: usize,
+        third: usize,
+    ) -> Result<(), Refusal>
+        ensures { answer_number result ≡ write_number widths.now self first second third }
     {
         if Self::MAX_ABPP < self.abpp {
             return Err(Refusal::NamedValue);
         }
-        self.grid.check()?;
+        self.grid.check(widths)?;
         if !parts_hold(first, second, third) {
             return Err(Refusal::OutputTooShort);
         }
@@ -100,11 +107,17 @@ impl ImageSubheader {
     }
 
     // Writes each part at the front of its output.
-    pub fn write(self, first: &mut [u8], second: &mut [u8], third: &mut [u8]) -> Result<(), Refusal>
+    pub fn write(
+        self,
+        widths: &Widths,
+        first: &mut [u8],
+        second: &mut [u8],
+        third: &mut [u8],
+    ) -> Result<(), Refusal>
         ensures { parts_out (answer_number result) first.new second.new third.new
-            ≡ write_subheader self first.old second.old third.old }
+            ≡ write_subheader widths.now self first.old second.old third.old }
     {
-        self.check_write(first.len(), second.len(), third.len())?;
+        self.check_write(widths, first.len(), second.len(), third.len())?;
         self.put_first(first);
         self.put_second(second);
         self.put_third(third);

@@ -8,6 +8,7 @@ use grid::EdgeRule;
 use refusals::answer_number;
 use std::{fmt, io};
 use subheader::ImageSubheader;
+use widths::Widths;
 
 // The three parts one after the other, the bands, and a byte more for a third part that is too long.
 #[derive(Clone, Copy)]
@@ -20,6 +21,9 @@ struct Set {
 const SECOND: usize = 38;
 
 const THIRD: usize = 40;
+
+// The table of widths that the reader is handed.
+static STANDARD: Widths = Widths::STANDARD;
 
 // Values that the reader answers with the same number, which is printed.
 #[derive(Clone, Copy)]
@@ -58,6 +62,7 @@ impl Set {
             &self.bytes[THIRD..THIRD + third],
             self.bands,
             EdgeRule::Tight,
+            &STANDARD,
         ))
     }
 

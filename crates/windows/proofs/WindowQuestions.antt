@@ -7,26 +7,33 @@ use mathlib.Core.List.{[], ◌∷◌}
 use native.Mathlib.Omega.{arith}
 use lib.Dec.{leb, lit<}
 use borrow.Author.Tests.{leb-true, le-leb}
+use Rattle.widths.specs.declared.Widths.{Widths}
 use Rattle.grid.specs.declared.Grid.{Grid}
 use Rattle.common.specs.Tests.{every}
-use Rattle.grid.specs.Check.{Accepted}
+use Rattle.grid.specs.Check.{Accepted, grid_number}
 use Rattle.grid.specs.Sizes.{sample_bytes}
 use Rattle.grid.specs.Layout.{block_end, Block}
 use Rattle.layout.specs.Bands.{band_count, q8, q9}
 use Rattle.common.proofs.Arith.{prod_le}
 use Rattle.common.proofs.Questions.{ask-inv}
-use Rattle.grid.proofs.Accepted.{Facts, facts, grid-inv, grid-yes, accepted_of}
+use Rattle.grid.proofs.Accepted.{Facts, facts, grid-inv}
+use Rattle.grid.proofs.Checked.{grid-accepted}
 use Rattle.calls.specs.Orders.{Window, window_questions, q7_window, q10, window_number}
 use Rattle.common.proofs.Tests.{both_yes}
 use Rattle.calls.proofs.WindowLaws.{InPicture, q10-facts, q7-at, window-last, block_of}
 use Rattle.windows.specs.Internal.Windows.{inside}
 
 -- an accepted grid leaves the other questions
-pub after-grid : (g : Grid) (n : ℕ) (w : Window) (m : ℕ) → Accepted g
-    → window_number g n w m
-    ≡ window_questions g n w m
+pub after-grid : (ws : Widths) (g : Grid) (n : ℕ) (w : Window) (m : ℕ) → 0 ≡ grid_number ws g
+    → window_number ws g n w m ≡ window_questions g n w m
 unfolding window_number
-after-grid g n w m a = grid-yes g _ a
+after-grid ws g n w m a = grid-accepted ws g _ a
+
+-- which an accepted window answers yes
+pub asked-after : (ws : Widths) (g : Grid) (n : ℕ) (w : Window) (m : ℕ) → 0 ≡ window_number ws g n w m
+    → window_questions g n w m ≡ 0
+unfolding window_number
+asked-after ws g n w m e = (grid-inv ws g _ (sym e)).1
 
 -- ---- question 10
 
@@ -101,15 +108,14 @@ pub record Answerable (g : Grid) (n : ℕ) (w : Window) (m : ℕ) : Type 0 where
   pub bands_in : q8 g.bands w.bands ≡ true
   pub room : band_count g.bands w.bands * w.rows * w.columns * sample_bytes g ≤ m
 
-pub answerable : (g : Grid) (n : ℕ) (w : Window) (m : ℕ) → window_number g n w m ≡ 0 → Answerable g n w m
-unfolding window_number q9
-answerable g n w m e =
-    let a = grid-inv g _ e in
-    let b = ask-inv 10 (q10 g w) _ (lit< tt) a.1 in
+pub answerable : (g : Grid) → Accepted g → (n : ℕ) (w : Window) (m : ℕ) → window_questions g n w m ≡ 0
+    → Answerable g n w m
+unfolding q9
+answerable g ok n w m e =
+    let b = ask-inv 10 (q10 g w) _ (lit< tt) e in
     let c = ask-inv 7 (q7_window g n w) _ (lit< tt) b.1 in
     let d = ask-inv 8 (q8 g.bands w.bands) _ (lit< tt) c.1 in
     let h = ask-inv 9 _ _ (lit< tt) d.1 in
-    let ok : Accepted g = accepted_of g a.0 in
     let p = q10-facts g w b.0 in
     record {
       accepted = ok;

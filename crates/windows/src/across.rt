@@ -2,7 +2,7 @@
 ghost use Rattle.std.specs.Prelude.{◌≡◌, length};
 ghost use Rattle.common.specs.Over.{over};
 ghost use Rattle.layout.specs.Bands.{bands_in};
-ghost use Rattle.calls.specs.Orders.{window_number, rectangle};
+ghost use Rattle.calls.specs.Orders.{window_questions, rectangle};
 ghost use Rattle.windows.specs.Internal.Windows.{window_bytes};
 
 use crate::Rectangle;
@@ -18,7 +18,7 @@ pub fn read_rectangle(
     asked: Option<&[u32]>,
     out: &mut [u8],
 )
-    requires { window_number grid.grid (length image.now)
+    requires { window_questions grid.grid (length image.now)
         (rectangle area.row area.column area.rows area.columns (bands_in asked)) (length out.old) ≡ 0 }
     ensures { out.new ≡ over out.old 0 (window_bytes grid.grid image.now
         (rectangle area.row area.column area.rows area.columns (bands_in asked.entry))) }

@@ -14,6 +14,7 @@ use common::product_fits;
 use grid::{AcceptedGrid, Grid, GridBlock};
 use layout::bands::{band_count, bands_below};
 use refusals::Refusal;
+use widths::Widths;
 
 mod across;
 mod cut;
@@ -42,15 +43,16 @@ fn is_inside(start: u32, length: u32, side: u32) -> bool
 fn check_window(
     image: usize,
     grid: Grid,
+    widths: &Widths,
     window: Rectangle,
     asked: Option<&[u32]>,
     room: usize,
 ) -> Result<AcceptedGrid, Refusal>
-    ensures number { answer_number result ≡ window_number grid image
+    ensures number { answer_number result ≡ window_number widths.now grid image
         (rectangle window.row window.column window.rows window.columns (bands_in asked.entry)) room }
     ensures same { IfOk result (λ a. a.grid ≡ grid) }
 {
-    let accepted = grid.check()?;
+    let accepted = grid.check(widths)?;
     if !is_inside(window.row, window.rows, grid.nrows) {
         return Err(Refusal::WindowOutsidePicture);
     }
@@ -79,14 +81,15 @@ fn check_window(
 pub fn read_window(
     image: &[u8],
     grid: Grid,
+    widths: &Widths,
     area: Rectangle,
     asked: Option<&[u32]>,
     out: &mut [u8],
 ) -> Result<Extent, Refusal>
-    ensures { filled_with (shape_of result) out.new ≡ window grid image.now
+    ensures { filled_with (shape_of result) out.new ≡ window widths.now grid image.now
         (rectangle area.row area.column area.rows area.columns (bands_in asked.entry)) out.old }
 {
-    let accepted = check_window(image.len(), grid, area, asked, out.len())?;
+    let accepted = check_window(image.len(), grid, widths, area, asked, out.len())?;
     read_rectangle(image, accepted, area, asked, out);
     Ok(Extent {
         bands: band_count(grid.bands, asked),

@@ -17,6 +17,7 @@ use Rattle.grid.specs.Internal.BlockLayouts.{layout_of}
 use Rattle.grid.proofs.Accepted.{facts}
 use Rattle.grid.proofs.BlockLayouts.{place_is, end_is, sound, run_is}
 use Rattle.grid.proofs.EdgeRules.{rule_moves_no-block}
+use Rattle.grid.proofs.Runs.{accepted_rule}
 use Rattle.grid.proofs.SamplePlaces.{end_in, run_inside}
 use Rattle.moves.specs.Internal.Stores.{put_all, clear_runs as clear_in}
 use Rattle.moves.specs.Internal.Relays.{bits_of, BlockRelayable}
@@ -53,7 +54,7 @@ pub relayable : (g : Grid) → Accepted g → (row column : ℕ) → Block g row
 unfolding actual_rows actual_columns
 relayable g a row column t n m h k =
     let f = facts g a in
-    let full-accepted : Accepted (under_full g) = (rule_moves_no-block Full g row column).number ∙ a in
+    let full-accepted : Accepted (under_full g) = accepted_rule Full g a in
     let full-facts = facts (under_full g) full-accepted in
     let full-block : Block (under_full g) row column = record { in_row = t.in_row; in_column = t.in_column } in
     record {

@@ -7,6 +7,7 @@ use Rattle.common.specs.Questions.{ask}
 use Rattle.common.specs.Rounding.{ceil_div}
 use Rattle.common.specs.Tests.{every}
 use Rattle.common.proofs.Tests.{every-at}
+use Rattle.widths.specs.declared.Widths.{Widths}
 use Rattle.grid.specs.declared.Grid.{Grid}
 use Rattle.grid.specs.declared.GridBlock.{GridBlock}
 use Rattle.grid.specs.Sizes.{sample_bytes, actual_rows, actual_columns}
@@ -64,11 +65,12 @@ unfolding q14
 q14-is g row column n bands rows columns size s e = rw (s.bands_in, s.rows_in, s.columns_in, e) refl
 
 -- where the questions before 13 are answered yes, 13, 14 and 26 decide
-pub write-asks : (g : Grid) (n m row column bands rows columns size : ℕ) (fit : Bool) → 0 ≡ skip_number g n m row column
-    → write_number g n m row column bands rows columns size fit
+pub write-asks : (ws : Widths) (g : Grid) (n m row column bands rows columns size : ℕ) (fit : Bool)
+    → 0 ≡ skip_number ws g n m row column
+    → write_number ws g n m row column bands rows columns size fit
     ≡ ask 13 (q13 g row column bands rows columns) (ask 14 (q14 g row column size) (ask 26 fit 0))
 unfolding skip_number write_number
-write-asks g n m row column bands rows columns size fit e = (block-before g n m row column).accepts e refl _
+write-asks ws g n m row column bands rows columns size fit e = (block-before ws g n m row column).accepts e refl _
 
 -- the bytes of a sample of n bits
 pub size_of : (n : ℕ) → 0 < n → n ≤ 64 → (0 < ceil_div n 8) × (ceil_div n 8 ≤ 8) × (8 * ceil_div n 8 < n + 8) × (n ≤ 8 * ceil_div n 8)

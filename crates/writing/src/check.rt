@@ -9,13 +9,14 @@ use calls::Extent;
 use fits::all_fit;
 use grid::{AcceptedGrid, EdgeRule, Grid, GridBlock};
 use refusals::Refusal;
+use widths::Widths;
 
 // Questions 1 to 4 and 12, for so many mark words.
-pub fn check_marks(grid: Grid, words: usize) -> Result<AcceptedGrid, Refusal>
-    ensures number { answer_number result ≡ progress_number grid words }
+pub fn check_marks(grid: Grid, widths: &Widths, words: usize) -> Result<AcceptedGrid, Refusal>
+    ensures number { answer_number result ≡ progress_number widths.now grid words }
     ensures same { IfOk result (λ a. a.grid ≡ grid) }
 {
-    let grid = grid.check()?;
+    let grid = grid.check(widths)?;
     if !marks::has_words(words, grid.blocks()) {
         return Err(Refusal::MarksTooShort);
     }
@@ -23,11 +24,16 @@ pub fn check_marks(grid: Grid, words: usize) -> Result<AcceptedGrid, Refusal>
 }
 
 // Questions 1 to 4, 11 and 12, for an image of so many bytes and so many mark words.
-pub fn check_buffers(grid: Grid, image: usize, words: usize) -> Result<AcceptedGrid, Refusal>
-    ensures number { answer_number result ≡ start_number grid image words }
+pub fn check_buffers(
+    grid: Grid,
+    widths: &Widths,
+    image: usize,
+    words: usize,
+) -> Result<AcceptedGrid, Refusal>
+    ensures number { answer_number result ≡ start_number widths.now grid image words }
     ensures same { IfOk result (λ a. a.grid ≡ grid) }
 {
-    let grid = grid.check()?;
+    let grid = grid.check(widths)?;
     if !grid.fits_in(image) {
         return Err(Refusal::ImageTooShort);
     }
@@ -54,14 +60,15 @@ fn holds_block(grid: AcceptedGrid, scratch: usize) -> bool
 // Questions 1 to 4, 11, 12 and 27, then 9 of a scratch of so many bytes.
 pub fn check_relay(
     grid: Grid,
+    widths: &Widths,
     image: usize,
     words: usize,
     scratch: usize,
 ) -> Result<AcceptedGrid, Refusal>
-    ensures number { answer_number result ≡ relay_number grid image words scratch }
+    ensures number { answer_number result ≡ relay_number widths.now grid image words scratch }
     ensures same { IfOk result (λ a. a.grid ≡ grid) }
 {
-    let grid = check_buffers(grid, image, words)?;
+    let grid = check_buffers(grid, widths, image, words)?;
     let tight = is_tight(grid.grid.edges);
     if !tight {
         return Err(Refusal::AlreadyFull);
@@ -75,21 +82,23 @@ pub fn check_relay(
 // Questions 1 to 4, 11, 12 and 6.
 pub fn check_block(
     grid: Grid,
+    widths: &Widths,
     image: usize,
     words: usize,
     block_row: u32,
     block_col: u32,
 ) -> Result<GridBlock, Refusal>
-    ensures number { answer_number result ≡ skip_number grid image words block_row block_col }
+    ensures number { answer_number result ≡ skip_number widths.now grid image words block_row block_col }
     ensures block { IfOk result (IsBlock grid block_row block_col) }
 {
-    let grid = check_buffers(grid, image, words)?;
+    let grid = check_buffers(grid, widths, image, words)?;
     grid.block(block_row, block_col)
 }
 
 // The same, then questions 13, 14 and 26.
 pub fn check_write(
     grid: Grid,
+    widths: &Widths,
     image: usize,
     words: usize,
     block_row: u32,
@@ -97,11 +106,11 @@ pub fn check_write(
     shape: Extent,
     data: &[u8],
 ) -> Result<GridBlock, Refusal>
-    ensures number { answer_number result ≡ write_number grid image words block_row block_col
+    ensures number { answer_number result ≡ write_number widths.now grid image words block_row block_col
         shape.bands shape.rows shape.columns (length «data».now) (q26 grid «data».now) }
     ensures block { IfOk result (IsBlock grid block_row block_col) }
 {
-    let block = check_block(grid, image, words, block_row, block_col)?;
+    let block = check_block(grid, widths, image, words, block_row, block_col)?;
     let extent = Extent {
         bands: grid.bands as usize,
         rows: block.rows(),

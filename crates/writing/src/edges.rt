@@ -9,6 +9,7 @@ use crate::check::check_relay;
 use grid::{AcceptedGrid, Grid, GridBlock};
 use moves::relay::relay_block;
 use refusals::Refusal;
+use widths::Widths;
 
 // Lays the blocks of a row of blocks anew. The scratch keeps its surplus.
 fn relay_row(image: &mut [u8], grid: AcceptedGrid, row: usize, scratch: &mut [u8])
@@ -51,11 +52,12 @@ pub fn relay(
     image: &mut [u8],
     marks: &[u64],
     grid: Grid,
+    widths: &Widths,
     scratch: &mut [u8],
 ) -> Result<Grid, Refusal>
-    ensures { relaid_of grid result image.new scratch.new ≡ relay_by grid image.old marks.now scratch.old }
+    ensures { relaid_of grid result image.new scratch.new ≡ relay_by widths.now grid image.old marks.now scratch.old }
 {
-    let grid = check_relay(grid, image.len(), marks.len(), scratch.len())?;
+    let grid = check_relay(grid, widths, image.len(), marks.len(), scratch.len())?;
     let whole_bytes = grid.grid.is_byte_multiple();
     if !whole_bytes {
         relay_blocks(image, grid, scratch);

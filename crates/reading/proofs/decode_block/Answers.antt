@@ -19,7 +19,7 @@ returns-in_err-block c =
 pub read_planes-requires : goal.read_planes-requires
 read_planes-requires c =
     let b = c.in_ok-block.ensures.block in
-    let facts = read-facts _ _ _ _ _ _ _ (sym c.in_ok-block.ensures.number) in
+    let facts = read-facts _ _ _ _ _ _ _ _ (sym c.in_ok-block.ensures.number) in
     rw (c.layout-layout.ensures, b.0, b.1, b.2) (block-readable _ _ _ _ _ _ _ facts)
 
 pub returns : goal.returns
@@ -29,5 +29,5 @@ returns c =
     let accepted = sym c.in_ok-block.ensures.number in
     let read = rw (c.layout-layout.ensures, b.0, b.1, b.2) at c.read_planes.ensures in
     rw (c.band_count.ensures, c.layout-layout.ensures, b.0, b.1, b.2)
-    (block-done a.grid a.image.now a.block_row a.block_col a.resolution_level (bands_in a.asked) a.out.now accepted
-    (read-facts _ _ _ _ _ _ _ accepted) read)
+    (block-done a.widths.now a.grid a.image.now a.block_row a.block_col a.resolution_level (bands_in a.asked) a.out.now
+    accepted (read-facts _ _ _ _ _ _ _ _ accepted) read)

@@ -14,18 +14,18 @@ pub returns-in_err-grid-clause-number : goal.returns-in_err-grid-clause-number
 unfolding block_number
 returns-in_err-grid-clause-number c =
     let p = err_from_is_err_and c.from_residual.result c.from_residual.ensures.1 in
-    rw (p.1, p.2) (grid-refused _ _ c.in_err-grid.ensures.number (number-some _))
+    rw (p.1, p.2) (grid-refused _ _ _ c.in_err-grid.ensures.number (number-some _))
 
 pub returns-then-resolution_level-ne0-clause-number : goal.returns-then-resolution_level-ne0-clause-number
 unfolding block_number
 returns-then-resolution_level-ne0-clause-number c =
-    rw (grid-accepted _ _ c.in_ok-grid.ensures.number, ne_eqb _ _ c.if-resolution_level-ne0.true) refl
+    rw (grid-accepted _ _ _ c.in_ok-grid.ensures.number, ne_eqb _ _ c.if-resolution_level-ne0.true) refl
 
 pub returns-in_err-block-clause-number : goal.returns-in_err-block-clause-number
 unfolding block_number
 returns-in_err-block-clause-number c =
     let p = err_from_is_err_and c.from_residual-in_err-block.result c.from_residual-in_err-block.ensures.1 in
-    rw (p.1, p.2, grid-accepted _ _ c.in_ok-grid.ensures.number, eq-eqb _ _ c.if-resolution_level-ne0.false)
+    rw (p.1, p.2, grid-accepted _ _ _ c.in_ok-grid.ensures.number, eq-eqb _ _ c.if-resolution_level-ne0.false)
     (block-refused _ _ _ c.in_ok-grid.ensures.same c.in_err-block.ensures.number (number-some _))
 
 pub returns-then-image-end-clause-number : goal.returns-then-image-end-clause-number
@@ -34,7 +34,7 @@ returns-then-image-end-clause-number c =
     let s = c.in_ok-grid.ensures.same in
     let b = same-block c.in_ok-block.block s c.in_ok-block.ensures.same in
     rw (
-      grid-accepted _ _ c.in_ok-grid.ensures.number,
+      grid-accepted _ _ _ c.in_ok-grid.ensures.number,
       eq-eqb _ _ c.if-resolution_level-ne0.false,
       block-yes _ _ s c.in_ok-block.ensures.number,
       lt-leb _ _ (rw (c.end.ensures, b.0, b.1, b.2) at c.if-image-end.true),
@@ -47,7 +47,7 @@ returns-then-not-bands_below-clause-number c =
     let s = c.in_ok-grid.ensures.same in
     let b = same-block c.in_ok-block.block s c.in_ok-block.ensures.same in
     rw (
-      grid-accepted _ _ c.in_ok-grid.ensures.number,
+      grid-accepted _ _ _ c.in_ok-grid.ensures.number,
       eq-eqb _ _ c.if-resolution_level-ne0.false,
       block-yes _ _ s c.in_ok-block.ensures.number,
       le-leb _ _ (rw (c.end.ensures, b.0, b.1, b.2) at c.if-image-end.false),
@@ -75,7 +75,7 @@ returns-then-not-product_fits-clause-number c =
     rw (c.band_count.ensures, c.rows.ensures, c.columns.ensures, c.sample_bytes.ensures, b.0, b.1, b.2, s) at
     c.if-not-product_fits.ensures in
     rw (
-      grid-accepted _ _ c.in_ok-grid.ensures.number,
+      grid-accepted _ _ _ c.in_ok-grid.ensures.number,
       eq-eqb _ _ c.if-resolution_level-ne0.false,
       block-yes _ _ s c.in_ok-block.ensures.number,
       le-leb _ _ (rw (c.end.ensures, b.0, b.1, b.2) at c.if-image-end.false),
@@ -93,7 +93,7 @@ returns-clause-number c =
     rw (c.band_count.ensures, c.rows.ensures, c.columns.ensures, c.sample_bytes.ensures, b.0, b.1, b.2, s) at
     c.if-not-product_fits.ensures in
     rw (
-      grid-accepted _ _ c.in_ok-grid.ensures.number,
+      grid-accepted _ _ _ c.in_ok-grid.ensures.number,
       eq-eqb _ _ c.if-resolution_level-ne0.false,
       block-yes _ _ s c.in_ok-block.ensures.number,
       le-leb _ _ (rw (c.end.ensures, b.0, b.1, b.2) at c.if-image-end.false),

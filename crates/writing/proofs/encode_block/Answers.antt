@@ -17,22 +17,22 @@ returns-in_err-block c =
     let a = c.args in
     let p = err_from_is_err_and c.from_residual.result c.from_residual.ensures.1 in
     let e = c.in_err-block.ensures.number in
-    rw (p.1, p.2, write-alone _ _ _ _ _ _ _ _ _ _ _ e) (refused-by _ (unchanged a.image.now a.marks.now) e (number-some _))
+    rw (p.1, p.2, write-alone _ _ _ _ _ _ _ _ _ _ _ _ e) (refused-by _ (unchanged a.image.now a.marks.now) e (number-some _))
 
 pub store_block-requires : goal.store_block-requires
 store_block-requires c =
     let b = c.in_ok-block.ensures.block in
     let zero = sym c.in_ok-block.ensures.number in
-    let k = write-facts _ _ _ _ _ _ _ _ _ _ zero in
-    let exact = write_data _ _ _ _ _ _ _ _ _ _ zero in
+    let k = write-facts _ _ _ _ _ _ _ _ _ _ _ zero in
+    let exact = write_data _ _ _ _ _ _ _ _ _ _ _ zero in
     rw (c.layout.ensures, b.0, b.1, b.2)
     (writable _ k.0.accepted _ _ k.1 _ _ exact k.0.bytes
-    (λ narrow. samples-fit _ k.0.accepted _ _ _ exact (write-fit _ _ _ _ _ _ _ _ _ _ zero)))
+    (λ narrow. samples-fit _ k.0.accepted _ _ _ exact (write-fit _ _ _ _ _ _ _ _ _ _ _ zero)))
 
 pub set_mark-requires : goal.set_mark-requires
 set_mark-requires c =
     let b = c.in_ok-block.ensures.block in
-    let k = write-facts _ _ _ _ _ _ _ _ _ _ (sym c.in_ok-block.ensures.number) in
+    let k = write-facts _ _ _ _ _ _ _ _ _ _ _ (sym c.in_ok-block.ensures.number) in
     rw (c.index.ensures, b.0, b.1, b.2) (mark_in _ _ _ _ k.0.words k.1)
 
 pub returns : goal.returns

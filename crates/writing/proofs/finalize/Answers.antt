@@ -16,11 +16,11 @@ unfolding finish
 returns-in_err-check_buffers c =
     let p = err_from_is_err_and c.from_residual.result c.from_residual.ensures.1 in
     let e = c.in_err-check_buffers.ensures.number in
-    rw (p.1, p.2, start-alone _ _ _ _ e) (refused-by _ number e (number-some _))
+    rw (p.1, p.2, start-alone _ _ _ _ _ e) (refused-by _ number e (number-some _))
 
 pub first_unmarked-requires : goal.first_unmarked-requires
 first_unmarked-requires c =
-    let k = start-facts _ _ _ (sym c.in_ok-check_buffers.ensures.number) in
+    let k = start-facts _ _ _ _ (sym c.in_ok-check_buffers.ensures.number) in
     let f = facts _ k.accepted in
     (across-pos _ f, f.counts.nbpr-le, f.counts.nbpc-le, omega (arith, k.words))
 

@@ -15,11 +15,11 @@ unfolding progress
 returns-in_err-grid c =
     let p = err_from_is_err_and c.from_residual.result c.from_residual.ensures.1 in
     let e = c.in_err-grid.ensures.number in
-    rw (p.1, p.2, progress-alone _ _ _ e) (refused-by _ number e (number-some _))
+    rw (p.1, p.2, progress-alone _ _ _ _ e) (refused-by _ number e (number-some _))
 
 pub count_marks-requires : goal.count_marks-requires
 count_marks-requires c =
-    rw (c.blocks-2.ensures, c.in_ok-grid.ensures.same) (omega (arith, progress-facts _ _ (sym c.in_ok-grid.ensures.number)))
+    rw (c.blocks-2.ensures, c.in_ok-grid.ensures.same) (omega (arith, progress-facts _ _ _ (sym c.in_ok-grid.ensures.number)))
 
 pub returns : goal.returns
 unfolding progress outcome

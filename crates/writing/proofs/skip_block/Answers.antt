@@ -17,12 +17,12 @@ returns-in_err-block c =
     let a = c.args in
     let p = err_from_is_err_and c.from_residual.result c.from_residual.ensures.1 in
     let e = c.in_err-block.ensures.number in
-    rw (p.1, p.2, skip-alone _ _ _ _ _ _ e) (refused-by _ (unchanged a.image.now a.marks.now) e (number-some _))
+    rw (p.1, p.2, skip-alone _ _ _ _ _ _ _ e) (refused-by _ (unchanged a.image.now a.marks.now) e (number-some _))
 
 pub set_mark-requires : goal.set_mark-requires
 set_mark-requires c =
     let b = c.in_ok-block.ensures.block in
-    let k = skip-facts _ _ _ _ _ (sym c.in_ok-block.ensures.number) in
+    let k = skip-facts _ _ _ _ _ _ (sym c.in_ok-block.ensures.number) in
     rw (c.index-index.ensures, b.0, b.1, b.2) (mark_in _ _ _ _ k.0.words k.1)
 
 pub returns : goal.returns

@@ -18,30 +18,30 @@ returns-in_err-grid c =
     let a = c.args in
     let p = err_from_is_err_and c.from_residual.result c.from_residual.ensures.1 in
     let e = c.in_err-grid.ensures.number in
-    rw (p.1, p.2, start-alone _ _ _ _ e) (refused-by _ (unchanged a.image.now a.marks.now) e (number-some _))
+    rw (p.1, p.2, start-alone _ _ _ _ _ e) (refused-by _ (unchanged a.image.now a.marks.now) e (number-some _))
 
 pub slice_bounds-fill-end : goal.slice_bounds-fill-end
 slice_bounds-fill-end c =
-    rw (c.image_bytes-bytes.ensures, c.in_ok-grid.ensures.same) (start-facts _ _ _ (sym c.in_ok-grid.ensures.number)).bytes
+    rw (c.image_bytes-bytes.ensures, c.in_ok-grid.ensures.same) (start-facts _ _ _ _ (sym c.in_ok-grid.ensures.number)).bytes
 
 pub slice_bounds-fill-end-2 : goal.slice_bounds-fill-end-2
 slice_bounds-fill-end-2 c =
     let e = rw c.in_ok-grid.ensures.same at c.image_bytes-bytes.ensures in
-    omega (arith, length-take {A = ℕ}, e, start-facts _ _ _ (sym c.in_ok-grid.ensures.number))
+    omega (arith, length-take {A = ℕ}, e, start-facts _ _ _ _ (sym c.in_ok-grid.ensures.number))
 
 pub slice_bounds-fill-end-3 : goal.slice_bounds-fill-end-3
 slice_bounds-fill-end-3 c =
-    rw (c.mark_words-words.ensures, c.blocks-2.ensures, c.in_ok-grid.ensures.same) (start-facts _ _ _ (sym c.in_ok-grid.ensures.number)).words
+    rw (c.mark_words-words.ensures, c.blocks-2.ensures, c.in_ok-grid.ensures.same) (start-facts _ _ _ _ (sym c.in_ok-grid.ensures.number)).words
 
 pub slice_bounds-fill-end-4 : goal.slice_bounds-fill-end-4
 slice_bounds-fill-end-4 c =
     let e = rw (c.blocks-2.ensures, c.in_ok-grid.ensures.same) at c.mark_words-words.ensures in
-    omega (arith, length-take {A = ℕ}, e, start-facts _ _ _ (sym c.in_ok-grid.ensures.number))
+    omega (arith, length-take {A = ℕ}, e, start-facts _ _ _ _ (sym c.in_ok-grid.ensures.number))
 
 pub returns : goal.returns
 unfolding start outcome
 returns c =
-    let e = start-facts _ _ _ (sym c.in_ok-grid.ensures.number) in
+    let e = start-facts _ _ _ _ (sym c.in_ok-grid.ensures.number) in
     let bytes = rw c.in_ok-grid.ensures.same at c.image_bytes-bytes.ensures in
     let words = rw (c.blocks-2.ensures, c.in_ok-grid.ensures.same) at c.mark_words-words.ensures in
     rw (

@@ -6,5 +6,5 @@ use Rattle.gezdunar.proofs.reads.gezdunar_decode_block.Goals as goal
 
 pub returns-in-Some : goal.returns-in-Some
 returns-in-Some c =
-    rw (sym c.in-Some.ensures, c.from.ensures)
-    (rw c.asked_bands-asked.ensures at c.decode_block.ensures ∙ block-asked _ _ _ _ _ _ _ _)
+    rw (sym c.in-Some.ensures, c.from.ensures, ← c.new.ensures)
+    (rw c.asked_bands-asked.ensures at c.decode_block.ensures ∙ block-asked _ _ _ _ _ _ _ _ _)

@@ -11,12 +11,13 @@ use Rattle.mask.proofs.ImageDataMask.check_table.Goals as goal
 pub returns-in_err-grid-clause-number : goal.returns-in_err-grid-clause-number
 unfolding grid_number parse_number
 returns-in_err-grid-clause-number c =
-    refused-first (ask_grid c.args.grid) (grid-before _) _ _ _ c.from_residual.ensures.1 c.in_err-grid.ensures.number
+    refused-first (ask_grid c.args.widths.now c.args.grid) (grid-before _ _) _ _ _
+    c.from_residual.ensures.1 c.in_err-grid.ensures.number
 
 pub returns-then-not-has_header-clause-number : goal.returns-then-not-has_header-clause-number
 unfolding parse_number
 returns-then-not-has_header-clause-number c =
-    rw (grid-yes _ _ (sym c.in_ok-grid.ensures.number), ← c.if-not-has_header.ensures)
+    rw (grid-yes _ _ _ (sym c.in_ok-grid.ensures.number), ← c.if-not-has_header.ensures)
 
 pub lengths-head-requires : goal.lengths-head-requires
 lengths-head-requires c = leb-true _ _ (sym c.if-not-has_header.ensures)
@@ -25,7 +26,7 @@ pub returns-then-not-has_record_lengths-clause-number : goal.returns-then-not-ha
 unfolding parse_number
 returns-then-not-has_record_lengths-clause-number c =
     rw (
-      grid-yes _ _ (sym c.in_ok-grid.ensures.number),
+      grid-yes _ _ _ (sym c.in_ok-grid.ensures.number),
       ← c.if-not-has_header.ensures,
       ← rw c.lengths-head.ensures at c.if-not-has_record_lengths.ensures,
     )
@@ -34,7 +35,7 @@ pub returns-then-head-gt-MAX_CODE_BITS-clause-number : goal.returns-then-head-gt
 unfolding parse_number
 returns-then-head-gt-MAX_CODE_BITS-clause-number c =
     rw (
-      grid-yes _ _ (sym c.in_ok-grid.ensures.number),
+      grid-yes _ _ _ (sym c.in_ok-grid.ensures.number),
       ← c.if-not-has_header.ensures,
       ← rw c.lengths-head.ensures at c.if-not-has_record_lengths.ensures,
       lt-leb _ 32 (rw c.lengths-head.ensures at c.if-head-gt-MAX_CODE_BITS.true),
@@ -45,7 +46,7 @@ unfolding parse_number
 returns-then-table-table_bytes-clause-number c =
     let size = rw (c.lengths-head.ensures, c.in_ok-grid.ensures.same) at c.table_bytes.ensures in
     rw (
-      grid-yes _ _ (sym c.in_ok-grid.ensures.number),
+      grid-yes _ _ _ (sym c.in_ok-grid.ensures.number),
       ← c.if-not-has_header.ensures,
       ← rw c.lengths-head.ensures at c.if-not-has_record_lengths.ensures,
       le-leb _ 32 (rw c.lengths-head.ensures at c.if-head-gt-MAX_CODE_BITS.false),
@@ -57,7 +58,7 @@ unfolding parse_number
 returns-clause-number c =
     let size = rw (c.lengths-head.ensures, c.in_ok-grid.ensures.same) at c.table_bytes.ensures in
     rw (
-      grid-yes _ _ (sym c.in_ok-grid.ensures.number),
+      grid-yes _ _ _ (sym c.in_ok-grid.ensures.number),
       ← c.if-not-has_header.ensures,
       ← rw c.lengths-head.ensures at c.if-not-has_record_lengths.ensures,
       le-leb _ 32 (rw c.lengths-head.ensures at c.if-head-gt-MAX_CODE_BITS.false),

@@ -17,7 +17,7 @@ returns-in_err-grid c =
 pub fill_records-requires : goal.fill_records-requires
 fill_records-requires c =
     let grid = c.in_ok-grid.ensures in
-    let facts = from-marks-facts _ _ _ (sym grid.number) in
+    let facts = from-marks-facts _ _ _ _ (sym grid.number) in
     rw grid.same (omega (arith, facts.words), facts.room)
 
 pub returns : goal.returns

@@ -19,14 +19,14 @@ get_be-requires c =
     omega (
       arith,
       rw table.header.1 at c.code_bytes-size.ensures,
-      code_inside _ _ (parse-facts _ _ (sym table.number)),
+      code_inside _ _ _ (parse-facts _ _ _ (sym table.number)),
     )
 
 pub overflow_cast-mask : goal.overflow_cast-mask
 overflow_cast-mask c =
     let table = c.in_ok-grid.ensures in
     let size = rw table.header.1 at c.code_bytes-size.ensures in
-    let inside = code_inside _ _ (parse-facts _ _ (sym table.number)) in
+    let inside = code_inside _ _ _ (parse-facts _ _ _ (sym table.number)) in
     let few : c.code_bytes-size.result ≤ 4 = omega (arith, size, inside) in
     record { fits = code_lt _ _ (λ i. (c.type_inv.table i).fits) few c.get_be.ensures }
 

@@ -7,7 +7,7 @@ use Rattle.common.proofs.Tests.{pick_yes, pick_no}
 use Rattle.mask.specs.Table.{records}
 use Rattle.mask.specs.Mask.{mark_record}
 use Rattle.mask.proofs.Records.{filled_lt}
-use Rattle.mask.proofs.Tabulate.{tabulate_is}
+use Rattle.common.proofs.Tabulate.{tabulate_is}
 use Rattle.mask.proofs.fill.fill_records.Goals as goal
 use Rattle.mask.proofs.fill.fill_records.Goals.{then-is_marked, else-is_marked}
 

@@ -14,13 +14,13 @@ pub returns-in_err-accepted-clause-number : goal.returns-in_err-accepted-clause-
 unfolding whole_number
 returns-in_err-accepted-clause-number c =
     let p = err_from_is_err_and c.from_residual.result c.from_residual.ensures.1 in
-    rw (p.1, p.2) (grid-refused _ _ c.in_err-accepted.ensures.number (number-some _))
+    rw (p.1, p.2) (grid-refused _ _ _ c.in_err-accepted.ensures.number (number-some _))
 
 pub returns-in_err-block-clause-number : goal.returns-in_err-block-clause-number
 unfolding whole_number
 returns-in_err-block-clause-number c =
     let p = err_from_is_err_and c.from_residual-in_err-block.result c.from_residual-in_err-block.ensures.1 in
-    rw (p.1, p.2, grid-accepted _ _ c.in_ok-accepted.ensures.number)
+    rw (p.1, p.2, grid-accepted _ _ _ c.in_ok-accepted.ensures.number)
     (block-refused _ _ _ c.in_ok-accepted.ensures.same c.in_err-block.ensures.number (number-some _))
 
 pub overflow_add-span : goal.overflow_add-span
@@ -34,7 +34,7 @@ returns-then-image-span-clause-number c =
     let s = c.in_ok-accepted.ensures.same in
     let b = same-block c.in_ok-block.block s c.in_ok-block.ensures.same in
     rw (
-      grid-accepted _ _ c.in_ok-accepted.ensures.number,
+      grid-accepted _ _ _ c.in_ok-accepted.ensures.number,
       block-yes _ _ s c.in_ok-block.ensures.number,
       lt-leb _ _ (rw (c.whole-span.ensures, b.0, b.1, b.2) at c.if-image-span.true),
     )
@@ -46,7 +46,7 @@ returns-clause-number c =
     let s = c.in_ok-accepted.ensures.same in
     let b = same-block c.in_ok-block.block s c.in_ok-block.ensures.same in
     rw (
-      grid-accepted _ _ c.in_ok-accepted.ensures.number,
+      grid-accepted _ _ _ c.in_ok-accepted.ensures.number,
       block-yes _ _ s c.in_ok-block.ensures.number,
       le-leb _ _ (rw (c.whole-span.ensures, b.0, b.1, b.2) at c.if-image-span.false),
     )

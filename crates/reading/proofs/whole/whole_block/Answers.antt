@@ -23,11 +23,11 @@ from_front first at e = omega arith
 
 pub overflow_add-result : goal.overflow_add-result
 overflow_add-result c =
-    let t = whole-facts _ _ _ _ (sym c.in-Ok.ensures.number) in
+    let t = whole-facts _ _ _ _ _ (sym c.in-Ok.ensures.number) in
     rw c.in-Ok.ensures.span (omega (arith, whole_in _ _ _ t.block, (facts _ t.accepted).image-le))
 
 pub slice_bounds-result-end : goal.slice_bounds-result-end
-slice_bounds-result-end c = rw c.in-Ok.ensures.span (whole-facts _ _ _ _ (sym c.in-Ok.ensures.number)).reached
+slice_bounds-result-end c = rw c.in-Ok.ensures.span (whole-facts _ _ _ _ _ (sym c.in-Ok.ensures.number)).reached
 
 pub returns-in-Ok-clause-bytes : goal.returns-in-Ok-clause-bytes
 unfolding whole_block

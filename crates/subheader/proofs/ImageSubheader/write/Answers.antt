@@ -14,13 +14,13 @@ returns-in_err-check_write c =
     rw (p.1, p.2) (refused _ _ _ c.in_err-check_write.ensures)
 
 pub put_first-requires : goal.put_first-requires
-put_first-requires c = (held _ _ _ _ (sym c.in_ok-check_write.ensures)).first
+put_first-requires c = (held _ _ _ _ _ (sym c.in_ok-check_write.ensures)).first
 
 pub put_second-requires : goal.put_second-requires
-put_second-requires c = (held _ _ _ _ (sym c.in_ok-check_write.ensures)).second
+put_second-requires c = (held _ _ _ _ _ (sym c.in_ok-check_write.ensures)).second
 
 pub put_third-requires : goal.put_third-requires
-put_third-requires c = (held _ _ _ _ (sym c.in_ok-check_write.ensures)).third
+put_third-requires c = (held _ _ _ _ _ (sym c.in_ok-check_write.ensures)).third
 
 pub returns : goal.returns
 unfolding write_subheader

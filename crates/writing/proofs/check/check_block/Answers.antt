@@ -11,9 +11,9 @@ pub returns-in_err-grid-clause-number : goal.returns-in_err-grid-clause-number
 unfolding start_number skip_number
 returns-in_err-grid-clause-number c =
     let p = err_from_is_err_and c.from_residual.result c.from_residual.ensures.1 in
-    rw (p.1, p.2) ((buffers-before _ _ _).refuses c.in_err-grid.ensures.number (number-some _) _)
+    rw (p.1, p.2) ((buffers-before _ _ _ _).refuses c.in_err-grid.ensures.number (number-some _) _)
 
 pub returns-clause-number : goal.returns-clause-number
 unfolding start_number skip_number
 returns-clause-number c =
-    rw c.in_ok-grid.ensures.same at c.block.ensures.number ∙ sym ((buffers-before _ _ _).accepts c.in_ok-grid.ensures.number refl _)
+    rw c.in_ok-grid.ensures.same at c.block.ensures.number ∙ sym ((buffers-before _ _ _ _).accepts c.in_ok-grid.ensures.number refl _)

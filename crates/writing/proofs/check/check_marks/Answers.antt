@@ -11,16 +11,16 @@ pub returns-in_err-grid-clause-number : goal.returns-in_err-grid-clause-number
 unfolding progress_number
 returns-in_err-grid-clause-number c =
     let p = err_from_is_err_and c.from_residual.result c.from_residual.ensures.1 in
-    rw (p.1, p.2) (grid-refused _ _ c.in_err-grid.ensures.number (number-some _))
+    rw (p.1, p.2) (grid-refused _ _ _ c.in_err-grid.ensures.number (number-some _))
 
 pub returns-then-not-has_words-clause-number : goal.returns-then-not-has_words-clause-number
 unfolding progress_number
 returns-then-not-has_words-clause-number c =
     let words = rw (c.blocks-2.ensures, c.in_ok-grid.ensures.same) at c.if-not-has_words.ensures in
-    rw (grid-accepted _ _ c.in_ok-grid.ensures.number, sym words) refl
+    rw (grid-accepted _ _ _ c.in_ok-grid.ensures.number, sym words) refl
 
 pub returns-clause-number : goal.returns-clause-number
 unfolding progress_number
 returns-clause-number c =
     let words = rw (c.blocks-2.ensures, c.in_ok-grid.ensures.same) at c.if-not-has_words.ensures in
-    rw (grid-accepted _ _ c.in_ok-grid.ensures.number, sym words) refl
+    rw (grid-accepted _ _ _ c.in_ok-grid.ensures.number, sym words) refl

@@ -14,14 +14,14 @@ pub returns-in_err-block-clause-number : goal.returns-in_err-block-clause-number
 unfolding skip_number write_number
 returns-in_err-block-clause-number c =
     let p = err_from_is_err_and c.from_residual.result c.from_residual.ensures.1 in
-    rw (p.1, p.2) ((block-before _ _ _ _ _).refuses c.in_err-block.ensures.number (number-some _) _)
+    rw (p.1, p.2) ((block-before _ _ _ _ _ _).refuses c.in_err-block.ensures.number (number-some _) _)
 
 pub returns-then-ne-clause-number : goal.returns-then-ne-clause-number
 returns-then-ne-clause-number c =
     let a = c.args in
     let b = c.in_ok-block.ensures.block in
     let shape = q13-is a.grid a.block_row a.block_col a.shape.bands a.shape.rows a.shape.columns (rw (c.rows.ensures, c.columns.ensures, b.0, b.1, b.2) at c.if-ne.ensures) in
-    rw (write-asks a.grid a.image a.words a.block_row a.block_col a.shape.bands a.shape.rows a.shape.columns (length a.«data».now) (q26 a.grid a.«data».now) c.in_ok-block.ensures.number, shape) refl
+    rw (write-asks a.widths.now a.grid a.image a.words a.block_row a.block_col a.shape.bands a.shape.rows a.shape.columns (length a.«data».now) (q26 a.grid a.«data».now) c.in_ok-block.ensures.number, shape) refl
 
 pub overflow_mul-shape : goal.overflow_mul-shape
 overflow_mul-shape c =
@@ -50,7 +50,7 @@ returns-then-data-shape-clause-number c =
     let b = c.in_ok-block.ensures.block in
     let shape = q13-is a.grid a.block_row a.block_col a.shape.bands a.shape.rows a.shape.columns (rw (c.rows.ensures, c.columns.ensures, b.0, b.1, b.2) at c.if-ne.ensures) in
     rw (
-      write-asks a.grid a.image a.words a.block_row a.block_col a.shape.bands a.shape.rows a.shape.columns (length a.«data».now) (q26 a.grid a.«data».now) c.in_ok-block.ensures.number,
+      write-asks a.widths.now a.grid a.image a.words a.block_row a.block_col a.shape.bands a.shape.rows a.shape.columns (length a.«data».now) (q26 a.grid a.«data».now) c.in_ok-block.ensures.number,
       shape,
       q14-is a.grid a.block_row a.block_col (length a.«data».now) a.shape.bands a.shape.rows a.shape.columns c.sample_bytes-size.result (shaped _ _ _ _ _ _ shape) (rw b.0 at c.sample_bytes-size.ensures),
       ne_eqb _ _ c.if-data-shape.true,
@@ -71,7 +71,7 @@ returns-then-not-all_fit-clause-number c =
     let size = rw b.0 at c.sample_bytes-size.ensures in
     let shape = q13-is a.grid a.block_row a.block_col a.shape.bands a.shape.rows a.shape.columns (rw (c.rows.ensures, c.columns.ensures, b.0, b.1, b.2) at c.if-ne.ensures) in
     rw (
-      write-asks a.grid a.image a.words a.block_row a.block_col a.shape.bands a.shape.rows a.shape.columns (length a.«data».now) (q26 a.grid a.«data».now) c.in_ok-block.ensures.number,
+      write-asks a.widths.now a.grid a.image a.words a.block_row a.block_col a.shape.bands a.shape.rows a.shape.columns (length a.«data».now) (q26 a.grid a.«data».now) c.in_ok-block.ensures.number,
       shape,
       q14-is a.grid a.block_row a.block_col (length a.«data».now) a.shape.bands a.shape.rows a.shape.columns c.sample_bytes-size.result (shaped _ _ _ _ _ _ shape) size,
       eq-eqb _ _ c.if-data-shape.false,
@@ -87,7 +87,7 @@ returns-clause-number c =
     let size = rw b.0 at c.sample_bytes-size.ensures in
     let shape = q13-is a.grid a.block_row a.block_col a.shape.bands a.shape.rows a.shape.columns (rw (c.rows.ensures, c.columns.ensures, b.0, b.1, b.2) at c.if-ne.ensures) in
     rw (
-      write-asks a.grid a.image a.words a.block_row a.block_col a.shape.bands a.shape.rows a.shape.columns (length a.«data».now) (q26 a.grid a.«data».now) c.in_ok-block.ensures.number,
+      write-asks a.widths.now a.grid a.image a.words a.block_row a.block_col a.shape.bands a.shape.rows a.shape.columns (length a.«data».now) (q26 a.grid a.«data».now) c.in_ok-block.ensures.number,
       shape,
       q14-is a.grid a.block_row a.block_col (length a.«data».now) a.shape.bands a.shape.rows a.shape.columns c.sample_bytes-size.result (shaped _ _ _ _ _ _ shape) size,
       eq-eqb _ _ c.if-data-shape.false,

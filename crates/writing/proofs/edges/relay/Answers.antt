@@ -25,12 +25,12 @@ pub relay_blocks-requires : goal.relay_blocks-requires
 relay_blocks-requires c =
     let zero = sym c.in_ok-grid.ensures.number in
     rw c.in_ok-grid.ensures.same
-    (record { buffers_hold = ((relay-facts _ _ _ _ zero).bytes, relay-room _ _ _ _ zero) })
+    (record { buffers_hold = ((relay-facts _ _ _ _ _ zero).bytes, relay-room _ _ _ _ _ zero) })
 
 pub slice_bounds-fill-end : goal.slice_bounds-fill-end
 slice_bounds-fill-end c =
     rw (c.block_bytes.ensures, c.in_ok-grid.ensures.same, c.if-not-whole_bytes.auto.scratch)
-    (relay-room _ _ _ _ (sym c.in_ok-grid.ensures.number))
+    (relay-room _ _ _ _ _ (sym c.in_ok-grid.ensures.number))
 
 pub slice_bounds-fill-end-2 : goal.slice_bounds-fill-end-2
 slice_bounds-fill-end-2 c =
@@ -40,7 +40,7 @@ slice_bounds-fill-end-2 c =
       length-take {A = ℕ},
       e,
       c.if-not-whole_bytes.auto.scratch,
-      relay-room _ _ _ _ (sym c.in_ok-grid.ensures.number),
+      relay-room _ _ _ _ _ (sym c.in_ok-grid.ensures.number),
     )
 
 pub returns : goal.returns
@@ -50,7 +50,7 @@ returns c =
     let same = c.in_ok-grid.ensures.same in
     let n : ℕ = a.grid.bands * band_bytes a.grid in
     let bytes : c.block_bytes.result ≡ n = rw same at c.block_bytes.ensures in
-    let room = relay-room _ _ _ _ (sym c.in_ok-grid.ensures.number) in
+    let room = relay-room _ _ _ _ _ (sym c.in_ok-grid.ensures.number) in
     let laid :
     (c.if-not-whole_bytes.image ≡ relaid a.grid a.image.now)
     × (drop n c.if-not-whole_bytes.scratch ≡ drop n a.scratch.now)

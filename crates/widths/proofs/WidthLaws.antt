@@ -7,8 +7,7 @@ use native.Mathlib.Omega.{arith}
 use native.Mathlib.Decide.{dec_lt}
 use borrow.Author.Tests.{lt-leb, le-leb, ne_eqb}
 use Rattle.common.specs.Tests.{some, within, every, pick}
-use Rattle.layout.specs.Internal.Layout.{SampleSize}
-use Rattle.grid.specs.Widths.{width_taken, width_bytes}
+use Rattle.widths.specs.Widths.{width_taken, width_bytes}
 use Rattle.common.specs.Rounding.{ceil_div}
 use Rattle.common.proofs.Tests.{true_false}
 
@@ -52,7 +51,7 @@ taken-top n e = go (dec_lt n 65)
     go (no h) = true_false (sym e ∙ past n (omega arith))
 
 -- a width that fills no whole bytes is narrow enough for eight bytes at any bit
-narrow : (n : ℕ) → width_taken n ≡ true → n < 8 * ceil_div n 8 → n ≤ 57
+pub narrow : (n : ℕ) → width_taken n ≡ true → n < 8 * ceil_div n 8 → n ≤ 57
 narrow n e h = go (dec_lt n 58)
   where
     go : Dec (n < 58) → n ≤ 57
@@ -75,10 +74,3 @@ taken n e = go (width_taken n) e
     go : (b : Bool) → (pick b (ceil_div n 8) 0 ≡ 0 → ⊥) → b ≡ true
     go false q = absurd (q refl)
     go true q = refl
-
--- samples of a width that is taken can be moved
-pub sample-size : (n : ℕ) → width_taken n ≡ true → SampleSize n (ceil_div n 8)
-sample-size n e =
-    let p = taken-pos n e in
-    let t = taken-top n e in
-    record { bits_pos = p; bits_le = omega arith; bytes_le = omega arith; narrow = narrow n e; some = omega arith }

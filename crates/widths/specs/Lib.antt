@@ -1,0 +1,3 @@
+-- The definitions of `widths`.
+pub mod Widths
+pub mod Loading
