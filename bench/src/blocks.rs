@@ -2,7 +2,7 @@
 
 use std::hint::black_box;
 
-use gezdunar::{Bands, EdgeRule, Grid, Shape, Sizes, Window};
+use gezdunar::{Bands, EdgeRule, Grid, Shape, Sizes, Widths, Window};
 use original::owned_buffer::OwnedBuffer;
 
 use crate::buffers::{source, source_of, Output};
@@ -12,7 +12,7 @@ use crate::original::{self as rust, Block};
 use crate::report::Times;
 
 pub fn sizes(grid: &Grid) -> Sizes {
-    grid.sizes().expect("an accepted grid")
+    grid.sizes(&Widths::STANDARD).expect("an accepted grid")
 }
 
 fn shape(grid: &Grid, (row, column): Block, bands: Option<&[u32]>) -> Shape {
@@ -42,7 +42,8 @@ fn runs(grid: &Grid, block: Block, memcpy: Memcpy) -> Option<Vec<Move>> {
 
 fn decode_block(image: &OwnedBuffer, grid: &Grid, block: Block, bands: Option<&[u32]>, out: &mut Output) {
     let (image, out) = (black_box(image.as_bytes()), out.bytes());
-    gezdunar::decode_block(image, grid, block.0, block.1, 0, listed(bands), out).expect("a block of the grid");
+    gezdunar::decode_block(image, grid, &Widths::STANDARD, block.0, block.1, 0, listed(bands), out)
+        .expect("a block of the grid");
 }
 
 pub fn decode(grid: &Grid, block: Block, bands: Option<&[u32]>, memcpy: Memcpy) -> Times {
@@ -80,14 +81,24 @@ impl Frame {
     pub fn start(grid: &Grid) -> Frame {
         let sizes = sizes(grid);
         let mut frame = Frame { image: Output::new(sizes.image_bytes), marks: vec![0; sizes.mark_words] };
-        gezdunar::start(frame.image.bytes(), &mut frame.marks, grid).expect("room for the image and the marks");
+        gezdunar::start(frame.image.bytes(), &mut frame.marks, grid, &Widths::STANDARD)
+            .expect("room for the image and the marks");
         frame
     }
 
     fn encode_block(&mut self, grid: &Grid, block: Block, data: &[u8]) {
         let (image, data) = (self.image.bytes(), black_box(data));
-        gezdunar::encode_block(image, &mut self.marks, grid, block.0, block.1, shape(grid, block, None), data)
-            .expect("a block of the grid");
+        gezdunar::encode_block(
+            image,
+            &mut self.marks,
+            grid,
+            &Widths::STANDARD,
+            block.0,
+            block.1,
+            shape(grid, block, None),
+            data,
+        )
+        .expect("a block of the grid");
     }
 }
 

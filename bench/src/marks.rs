@@ -3,7 +3,7 @@
 use std::hint::black_box;
 use std::time::{Duration, Instant};
 
-use gezdunar::{EdgeRule, Grid, InterleaveMode, Refusal};
+use gezdunar::{EdgeRule, Grid, InterleaveMode, Refusal, Widths};
 use original::owned_buffer::OwnedBuffer;
 
 use crate::blocks::sizes;
@@ -40,7 +40,7 @@ pub fn progress() -> Times {
     let grid = grid();
     let marks = marks(&grid, None);
     let (bytes, mut copied) = words(&marks);
-    let count = || gezdunar::progress(black_box(&marks), &grid).expect("words for every mark");
+    let count = || gezdunar::progress(black_box(&marks), &grid, &Widths::STANDARD).expect("words for every mark");
     assert_eq!(count(), sizes(&grid).blocks);
     Times::without_original(best([
         Side::Call(&mut || release(count())),
@@ -77,7 +77,7 @@ fn finalize(but: Option<Block>) -> Times {
     let image = vec![0; sizes(&grid).image_bytes];
     let marks = marks(&grid, but);
     let (bytes, mut copied) = words(&marks);
-    let of_product = || gezdunar::finalize(&image, black_box(&marks), &grid);
+    let of_product = || gezdunar::finalize(&image, black_box(&marks), &grid, &Widths::STANDARD);
     let expected = but.map_or(Ok(()), |(row, column)| Err(Refusal::UnmarkedBlock { row, column }));
     assert_eq!(of_product(), expected);
 

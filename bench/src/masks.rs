@@ -3,7 +3,7 @@
 
 use std::hint::black_box;
 
-use gezdunar::{EdgeRule, Grid, InterleaveMode, EMPTY_BLOCK_OFFSET};
+use gezdunar::{EdgeRule, Grid, InterleaveMode, Widths, EMPTY_BLOCK_OFFSET};
 use original::owned_buffer::OwnedBuffer;
 
 use crate::buffers::{copy, source_of, Output};
@@ -28,7 +28,7 @@ fn offset(block: u32) -> u32 {
 fn table(grid: &Grid) -> OwnedBuffer {
     let offsets: Vec<u32> = (0..grid.nbpr * grid.nbpc).map(offset).collect();
     let mask = gezdunar::ImageDataMask { block_mask_record_length: 4, ..Default::default() };
-    source_of(&gezdunar::mask_write_vec(grid, &mask, &offsets, &[]).expect("one offset a record"))
+    source_of(&gezdunar::mask_write_vec(grid, &Widths::STANDARD, &mask, &offsets, &[]).expect("one offset a record"))
 }
 
 /// The original's mask and the count of bytes used.
@@ -40,7 +40,8 @@ pub fn parse() -> Times {
     let grid = grid();
     let table = table(&grid);
     let mut copied = Output::new(table.len());
-    let of_product = || gezdunar::mask_parse(black_box(table.as_bytes()), &grid).expect("a whole table");
+    let of_product =
+        || gezdunar::mask_parse(black_box(table.as_bytes()), &grid, &Widths::STANDARD).expect("a whole table");
     let of_rust = || parse_original(black_box(table.as_bytes()), &grid);
 
     let (mask, used) = of_rust();
@@ -79,7 +80,7 @@ pub fn has_block() -> Times {
         &grid,
         |row, column| u64::from(black_box(&mask).has_block(row, column, grid.nbpr, 0, imode(grid.imode))),
         |row, column| {
-            let present = gezdunar::has_block(black_box(bytes), &grid, row, column, 0);
+            let present = gezdunar::has_block(black_box(bytes), &grid, &Widths::STANDARD, row, column, 0);
             u64::from(present.expect("a block of the grid"))
         },
     )
@@ -94,7 +95,7 @@ pub fn get_block_offset() -> Times {
         &grid,
         |row, column| black_box(&mask).get_block_offset(row, column, grid.nbpr, 0, imode(grid.imode)).unwrap_or(1),
         |row, column| {
-            let offset = gezdunar::get_block_offset(black_box(bytes), &grid, row, column, 0);
+            let offset = gezdunar::get_block_offset(black_box(bytes), &grid, &Widths::STANDARD, row, column, 0);
             offset.expect("a block of the grid").map_or(1, u64::from)
         },
     )

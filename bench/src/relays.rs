@@ -3,7 +3,7 @@
 
 use std::hint::black_box;
 
-use gezdunar::{EdgeRule, Grid};
+use gezdunar::{EdgeRule, Grid, Widths};
 
 use crate::blocks::{read_and_write, relaid, sizes, Frame};
 use crate::buffers::{copy, source, Output};
@@ -15,7 +15,7 @@ pub fn image_bytes(grid: &Grid) -> usize {
 }
 
 fn relay(image: &mut Output, tight: &Grid, marks: &[u64], scratch: &mut Output) {
-    gezdunar::relay(black_box(image.bytes()), marks, tight, scratch.bytes()).expect("a tight grid");
+    gezdunar::relay(black_box(image.bytes()), marks, tight, &Widths::STANDARD, scratch.bytes()).expect("a tight grid");
 }
 
 /// The image of a tight grid, laid anew under full.

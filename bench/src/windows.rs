@@ -3,7 +3,7 @@
 
 use std::hint::black_box;
 
-use gezdunar::{Bands, EdgeRule, Grid, Window};
+use gezdunar::{Bands, EdgeRule, Grid, Widths, Window};
 use original::jbp::image::nc_decoder::UncompressedBlockDecoder;
 use original::owned_buffer::OwnedBuffer;
 
@@ -19,7 +19,7 @@ pub fn window_bytes(grid: &Grid, window: &Window) -> usize {
 }
 
 fn read_window(image: &OwnedBuffer, grid: &Grid, window: Window, out: &mut Output) {
-    gezdunar::read_window(black_box(image.as_bytes()), grid, window, Bands::All, out.bytes())
+    gezdunar::read_window(black_box(image.as_bytes()), grid, &Widths::STANDARD, window, Bands::All, out.bytes())
         .expect("a window of the picture");
 }
 

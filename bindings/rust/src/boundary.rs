@@ -1,7 +1,8 @@
 //! The C boundary, as `include/gezdunar.h` declares it, and a safe function for each of its calls: slices cross as a
-//! pointer and a length, the grid as a struct of its numbers. All that is unsafe stands here.
+//! pointer and a length, the grid as a struct of its numbers, the width table as its entries. All that is unsafe stands
+//! here.
 
-use crate::{Bands, EdgeRule, Grid, ImageDataMask, InterleaveMode, Window};
+use crate::{Bands, EdgeRule, Grid, ImageDataMask, InterleaveMode, Widths, Window};
 
 /// The grid of a subheader. IMODE and the edge rule are bytes: beside a refusal they are 0, which is neither.
 #[repr(C)]
@@ -34,6 +35,13 @@ pub(crate) struct Subheader {
 pub(crate) struct ReadSubheader {
     pub number: u32,
     pub subheader: Subheader,
+}
+
+/// Answer of a loading, with the table's entries.
+#[repr(C)]
+pub(crate) struct LoadedWidths {
+    pub number: u32,
+    pub entries: [u8; 65],
 }
 
 /// Sizes of a grid.
@@ -123,84 +131,95 @@ extern "C" {
         nrows: u32, ncols: u32, bands: u32, nbpp: u32, imode: u8, edges: u8, nppbv: u32, nppbh: u32,
     ) -> Grid;
 
-    fn gezdunar_grid_check(grid: Grid) -> u32;
+    fn gezdunar_load_widths(bytes: *const u8, length: usize) -> LoadedWidths;
 
-    fn gezdunar_grid_sizes(grid: Grid) -> Sizes;
+    fn gezdunar_grid_check(grid: Grid, widths: *const u8, widths_length: usize) -> u32;
+
+    fn gezdunar_grid_sizes(grid: Grid, widths: *const u8, widths_length: usize) -> Sizes;
 
     fn gezdunar_subheader_read(
         first: *const u8, first_length: usize, second: *const u8, second_length: usize,
-        third: *const u8, third_length: usize, bands: u32, edges: u8,
+        third: *const u8, third_length: usize, bands: u32, edges: u8, widths: *const u8, widths_length: usize,
     ) -> ReadSubheader;
 
     fn gezdunar_subheader_write(
-        subheader: Subheader, first: *mut u8, first_length: usize, second: *mut u8, second_length: usize,
-        third: *mut u8, third_length: usize,
+        subheader: Subheader, widths: *const u8, widths_length: usize, first: *mut u8, first_length: usize,
+        second: *mut u8, second_length: usize, third: *mut u8, third_length: usize,
     ) -> u32;
 
     fn gezdunar_decode_block(
-        image: *const u8, image_length: usize, grid: Grid,
+        image: *const u8, image_length: usize, grid: Grid, widths: *const u8, widths_length: usize,
         block_row: u32, block_col: u32, resolution_level: u32,
         all: bool, list: *const u32, list_length: usize, out: *mut u8, out_length: usize,
     ) -> Shape;
 
     fn gezdunar_whole_block(
-        image: *const u8, image_length: usize, grid: Grid,
+        image: *const u8, image_length: usize, grid: Grid, widths: *const u8, widths_length: usize,
         block_row: u32, block_col: u32,
     ) -> Place;
 
     fn gezdunar_read_window(
-        image: *const u8, image_length: usize, grid: Grid,
+        image: *const u8, image_length: usize, grid: Grid, widths: *const u8, widths_length: usize,
         row: u32, column: u32, rows: u32, columns: u32,
         all: bool, list: *const u32, list_length: usize, out: *mut u8, out_length: usize,
     ) -> Shape;
 
     fn gezdunar_start(
-        image: *mut u8, image_length: usize, marks: *mut u64, marks_length: usize, grid: Grid,
+        image: *mut u8, image_length: usize, marks: *mut u64, marks_length: usize,
+        grid: Grid, widths: *const u8, widths_length: usize,
     ) -> Answer;
 
     fn gezdunar_encode_block(
-        image: *mut u8, image_length: usize, marks: *mut u64, marks_length: usize, grid: Grid,
+        image: *mut u8, image_length: usize, marks: *mut u64, marks_length: usize,
+        grid: Grid, widths: *const u8, widths_length: usize,
         block_row: u32, block_col: u32, shape_bands: usize, shape_rows: usize, shape_columns: usize,
         data: *const u8, data_length: usize,
     ) -> Answer;
 
     fn gezdunar_skip_block(
-        image: *const u8, image_length: usize, marks: *mut u64, marks_length: usize, grid: Grid,
+        image: *const u8, image_length: usize, marks: *mut u64, marks_length: usize,
+        grid: Grid, widths: *const u8, widths_length: usize,
         block_row: u32, block_col: u32,
     ) -> Answer;
 
-    fn gezdunar_progress(marks: *const u64, marks_length: usize, grid: Grid) -> Answer;
+    fn gezdunar_progress(
+        marks: *const u64, marks_length: usize, grid: Grid, widths: *const u8, widths_length: usize,
+    ) -> Answer;
 
     fn gezdunar_finalize(
-        image: *const u8, image_length: usize, marks: *const u64, marks_length: usize, grid: Grid,
+        image: *const u8, image_length: usize, marks: *const u64, marks_length: usize,
+        grid: Grid, widths: *const u8, widths_length: usize,
     ) -> Answer;
 
     fn gezdunar_relay(
-        image: *mut u8, image_length: usize, marks: *const u64, marks_length: usize, grid: Grid,
+        image: *mut u8, image_length: usize, marks: *const u64, marks_length: usize,
+        grid: Grid, widths: *const u8, widths_length: usize,
         scratch: *mut u8, scratch_length: usize,
     ) -> Relaid;
 
-    fn gezdunar_mask_parse(table: *const u8, table_length: usize, grid: Grid) -> Parsed;
+    fn gezdunar_mask_parse(
+        table: *const u8, table_length: usize, grid: Grid, widths: *const u8, widths_length: usize,
+    ) -> Parsed;
 
     fn gezdunar_mask_write(
-        grid: Grid,
+        grid: Grid, widths: *const u8, widths_length: usize,
         block_record_length: u16, pad_record_length: u16, code_length: u16, code: u32,
         block_offsets: *const u32, block_offsets_length: usize, pad_offsets: *const u32, pad_offsets_length: usize,
         out: *mut u8, out_length: usize,
     ) -> Written;
 
     fn gezdunar_has_block(
-        table: *const u8, table_length: usize, grid: Grid,
+        table: *const u8, table_length: usize, grid: Grid, widths: *const u8, widths_length: usize,
         block_row: u32, block_col: u32, band: u32,
     ) -> Present;
 
     fn gezdunar_get_block_offset(
-        table: *const u8, table_length: usize, grid: Grid,
+        table: *const u8, table_length: usize, grid: Grid, widths: *const u8, widths_length: usize,
         block_row: u32, block_col: u32, band: u32,
     ) -> BlockOffset;
 
     fn gezdunar_mask_from_marks(
-        marks: *const u64, marks_length: usize, grid: Grid,
+        marks: *const u64, marks_length: usize, grid: Grid, widths: *const u8, widths_length: usize,
         out: *mut u32, out_length: usize,
     ) -> Parsed;
 
@@ -245,17 +264,29 @@ pub(crate) fn grid(
     unsafe { gezdunar_grid(nrows, ncols, bands, nbpp, imode.letter(), edges.letter(), nppbv, nppbh) }
 }
 
-pub(crate) fn grid_check(grid: &Grid) -> u32 {
-    // SAFETY: only numbers.
-    unsafe { gezdunar_grid_check(*grid) }
+pub(crate) fn load_widths(bytes: &[u8]) -> LoadedWidths {
+    // SAFETY: borrowed slice.
+    unsafe { gezdunar_load_widths(bytes.as_ptr(), bytes.len()) }
 }
 
-pub(crate) fn grid_sizes(grid: &Grid) -> Sizes {
-    // SAFETY: only numbers.
-    unsafe { gezdunar_grid_sizes(*grid) }
+pub(crate) fn grid_check(grid: &Grid, widths: &Widths) -> u32 {
+    // SAFETY: numbers, and a borrowed array.
+    unsafe { gezdunar_grid_check(*grid, widths.entries.as_ptr(), widths.entries.len()) }
 }
 
-pub(crate) fn subheader_read(first: &[u8], second: &[u8], third: &[u8], bands: u32, edges: EdgeRule) -> ReadSubheader {
+pub(crate) fn grid_sizes(grid: &Grid, widths: &Widths) -> Sizes {
+    // SAFETY: numbers, and a borrowed array.
+    unsafe { gezdunar_grid_sizes(*grid, widths.entries.as_ptr(), widths.entries.len()) }
+}
+
+pub(crate) fn subheader_read(
+    first: &[u8],
+    second: &[u8],
+    third: &[u8],
+    bands: u32,
+    edges: EdgeRule,
+    widths: &Widths,
+) -> ReadSubheader {
     // SAFETY: borrowed slices.
     unsafe {
         gezdunar_subheader_read(
@@ -267,15 +298,25 @@ pub(crate) fn subheader_read(first: &[u8], second: &[u8], third: &[u8], bands: u
             third.len(),
             bands,
             edges.letter(),
+            widths.entries.as_ptr(),
+            widths.entries.len(),
         )
     }
 }
 
-pub(crate) fn subheader_write(subheader: Subheader, first: &mut [u8], second: &mut [u8], third: &mut [u8]) -> u32 {
+pub(crate) fn subheader_write(
+    subheader: Subheader,
+    widths: &Widths,
+    first: &mut [u8],
+    second: &mut [u8],
+    third: &mut [u8],
+) -> u32 {
     // SAFETY: borrowed slices.
     unsafe {
         gezdunar_subheader_write(
             subheader,
+            widths.entries.as_ptr(),
+            widths.entries.len(),
             first.as_mut_ptr(),
             first.len(),
             second.as_mut_ptr(),
@@ -286,9 +327,11 @@ pub(crate) fn subheader_write(subheader: Subheader, first: &mut [u8], second: &m
     }
 }
 
+#[allow(clippy::too_many_arguments)]
 pub(crate) fn decode_block(
     image: &[u8],
     grid: &Grid,
+    widths: &Widths,
     block_row: u32,
     block_col: u32,
     resolution_level: u32,
@@ -304,6 +347,8 @@ pub(crate) fn decode_block(
             image.as_ptr(),
             image.len(),
             *grid,
+            widths.entries.as_ptr(),
+            widths.entries.len(),
             block_row,
             block_col,
             resolution_level,
@@ -316,12 +361,29 @@ pub(crate) fn decode_block(
     }
 }
 
-pub(crate) fn whole_block(image: &[u8], grid: &Grid, block_row: u32, block_col: u32) -> Place {
+pub(crate) fn whole_block(image: &[u8], grid: &Grid, widths: &Widths, block_row: u32, block_col: u32) -> Place {
     // SAFETY: borrowed slice.
-    unsafe { gezdunar_whole_block(image.as_ptr(), image.len(), *grid, block_row, block_col) }
+    unsafe {
+        gezdunar_whole_block(
+            image.as_ptr(),
+            image.len(),
+            *grid,
+            widths.entries.as_ptr(),
+            widths.entries.len(),
+            block_row,
+            block_col,
+        )
+    }
 }
 
-pub(crate) fn read_window(image: &[u8], grid: &Grid, window: Window, bands: Bands<'_>, out: &mut [u8]) -> Shape {
+pub(crate) fn read_window(
+    image: &[u8],
+    grid: &Grid,
+    widths: &Widths,
+    window: Window,
+    bands: Bands<'_>,
+    out: &mut [u8],
+) -> Shape {
     let Window { row, column, rows, columns } = window;
     let (all, list) = bands.all_and_list();
     let (list, list_length) = (list.as_ptr(), list.len());
@@ -332,6 +394,8 @@ pub(crate) fn read_window(image: &[u8], grid: &Grid, window: Window, bands: Band
             image.as_ptr(),
             image.len(),
             *grid,
+            widths.entries.as_ptr(),
+            widths.entries.len(),
             row,
             column,
             rows,
@@ -345,15 +409,27 @@ pub(crate) fn read_window(image: &[u8], grid: &Grid, window: Window, bands: Band
     }
 }
 
-pub(crate) fn start(image: &mut [u8], marks: &mut [u64], grid: &Grid) -> Answer {
+pub(crate) fn start(image: &mut [u8], marks: &mut [u64], grid: &Grid, widths: &Widths) -> Answer {
     // SAFETY: borrowed slices.
-    unsafe { gezdunar_start(image.as_mut_ptr(), image.len(), marks.as_mut_ptr(), marks.len(), *grid) }
+    unsafe {
+        gezdunar_start(
+            image.as_mut_ptr(),
+            image.len(),
+            marks.as_mut_ptr(),
+            marks.len(),
+            *grid,
+            widths.entries.as_ptr(),
+            widths.entries.len(),
+        )
+    }
 }
 
+#[allow(clippy::too_many_arguments)]
 pub(crate) fn encode_block(
     image: &mut [u8],
     marks: &mut [u64],
     grid: &Grid,
+    widths: &Widths,
     block_row: u32,
     block_col: u32,
     shape: crate::Shape,
@@ -367,6 +443,8 @@ pub(crate) fn encode_block(
             marks.as_mut_ptr(),
             marks.len(),
             *grid,
+            widths.entries.as_ptr(),
+            widths.entries.len(),
             block_row,
             block_col,
             shape.bands,
@@ -378,24 +456,51 @@ pub(crate) fn encode_block(
     }
 }
 
-pub(crate) fn skip_block(image: &[u8], marks: &mut [u64], grid: &Grid, block_row: u32, block_col: u32) -> Answer {
+pub(crate) fn skip_block(
+    image: &[u8],
+    marks: &mut [u64],
+    grid: &Grid,
+    widths: &Widths,
+    block_row: u32,
+    block_col: u32,
+) -> Answer {
     // SAFETY: borrowed slices.
     unsafe {
-        gezdunar_skip_block(image.as_ptr(), image.len(), marks.as_mut_ptr(), marks.len(), *grid, block_row, block_col)
+        gezdunar_skip_block(
+            image.as_ptr(),
+            image.len(),
+            marks.as_mut_ptr(),
+            marks.len(),
+            *grid,
+            widths.entries.as_ptr(),
+            widths.entries.len(),
+            block_row,
+            block_col,
+        )
     }
 }
 
-pub(crate) fn progress(marks: &[u64], grid: &Grid) -> Answer {
+pub(crate) fn progress(marks: &[u64], grid: &Grid, widths: &Widths) -> Answer {
     // SAFETY: borrowed slice.
-    unsafe { gezdunar_progress(marks.as_ptr(), marks.len(), *grid) }
+    unsafe { gezdunar_progress(marks.as_ptr(), marks.len(), *grid, widths.entries.as_ptr(), widths.entries.len()) }
 }
 
-pub(crate) fn finalize(image: &[u8], marks: &[u64], grid: &Grid) -> Answer {
+pub(crate) fn finalize(image: &[u8], marks: &[u64], grid: &Grid, widths: &Widths) -> Answer {
     // SAFETY: borrowed slices.
-    unsafe { gezdunar_finalize(image.as_ptr(), image.len(), marks.as_ptr(), marks.len(), *grid) }
+    unsafe {
+        gezdunar_finalize(
+            image.as_ptr(),
+            image.len(),
+            marks.as_ptr(),
+            marks.len(),
+            *grid,
+            widths.entries.as_ptr(),
+            widths.entries.len(),
+        )
+    }
 }
 
-pub(crate) fn relay(image: &mut [u8], marks: &[u64], grid: &Grid, scratch: &mut [u8]) -> Relaid {
+pub(crate) fn relay(image: &mut [u8], marks: &[u64], grid: &Grid, widths: &Widths, scratch: &mut [u8]) -> Relaid {
     // SAFETY: borrowed slices; the answer has the letters of IMODE and of the edge rule that are handed in, or F.
     unsafe {
         gezdunar_relay(
@@ -404,19 +509,22 @@ pub(crate) fn relay(image: &mut [u8], marks: &[u64], grid: &Grid, scratch: &mut 
             marks.as_ptr(),
             marks.len(),
             *grid,
+            widths.entries.as_ptr(),
+            widths.entries.len(),
             scratch.as_mut_ptr(),
             scratch.len(),
         )
     }
 }
 
-pub(crate) fn mask_parse(table: &[u8], grid: &Grid) -> Parsed {
+pub(crate) fn mask_parse(table: &[u8], grid: &Grid, widths: &Widths) -> Parsed {
     // SAFETY: borrowed slice.
-    unsafe { gezdunar_mask_parse(table.as_ptr(), table.len(), *grid) }
+    unsafe { gezdunar_mask_parse(table.as_ptr(), table.len(), *grid, widths.entries.as_ptr(), widths.entries.len()) }
 }
 
 pub(crate) fn mask_write(
     grid: &Grid,
+    widths: &Widths,
     mask: &ImageDataMask,
     block_offsets: &[u32],
     pad_offsets: &[u32],
@@ -427,6 +535,8 @@ pub(crate) fn mask_write(
     unsafe {
         gezdunar_mask_write(
             *grid,
+            widths.entries.as_ptr(),
+            widths.entries.len(),
             mask.block_mask_record_length,
             mask.pad_pixel_mask_record_length,
             mask.pad_pixel_code_length,
@@ -441,19 +551,65 @@ pub(crate) fn mask_write(
     }
 }
 
-pub(crate) fn has_block(table: &[u8], grid: &Grid, block_row: u32, block_col: u32, band: u32) -> Present {
+pub(crate) fn has_block(
+    table: &[u8],
+    grid: &Grid,
+    widths: &Widths,
+    block_row: u32,
+    block_col: u32,
+    band: u32,
+) -> Present {
     // SAFETY: borrowed slice.
-    unsafe { gezdunar_has_block(table.as_ptr(), table.len(), *grid, block_row, block_col, band) }
+    unsafe {
+        gezdunar_has_block(
+            table.as_ptr(),
+            table.len(),
+            *grid,
+            widths.entries.as_ptr(),
+            widths.entries.len(),
+            block_row,
+            block_col,
+            band,
+        )
+    }
 }
 
-pub(crate) fn get_block_offset(table: &[u8], grid: &Grid, block_row: u32, block_col: u32, band: u32) -> BlockOffset {
+pub(crate) fn get_block_offset(
+    table: &[u8],
+    grid: &Grid,
+    widths: &Widths,
+    block_row: u32,
+    block_col: u32,
+    band: u32,
+) -> BlockOffset {
     // SAFETY: borrowed slice.
-    unsafe { gezdunar_get_block_offset(table.as_ptr(), table.len(), *grid, block_row, block_col, band) }
+    unsafe {
+        gezdunar_get_block_offset(
+            table.as_ptr(),
+            table.len(),
+            *grid,
+            widths.entries.as_ptr(),
+            widths.entries.len(),
+            block_row,
+            block_col,
+            band,
+        )
+    }
 }
 
-pub(crate) fn mask_from_marks(marks: &[u64], grid: &Grid, out: &mut [u32]) -> Parsed {
+pub(crate) fn mask_from_marks(marks: &[u64], grid: &Grid, widths: &Widths, out: &mut [u32]) -> Parsed {
     // SAFETY: borrowed slices.
-    unsafe { gezdunar_mask_from_marks(marks.as_ptr(), marks.len(), *grid, out.as_mut_ptr(), out.len()) }
+    unsafe {
+        gezdunar_mask_from_marks(
+            marks.as_ptr(),
+            marks.len(),
+            *grid,
+            widths.entries.as_ptr(),
+            widths.entries.len(),
+            out.as_mut_ptr(),
+            out.len(),
+        )
+    }
 }
 
 pub(crate) fn to_band_sequential(

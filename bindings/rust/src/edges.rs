@@ -12,10 +12,10 @@ use std::str::FromStr;
 ///
 /// ```
 /// # fn main() -> Result<(), gezdunar::Refusal> {
-/// use gezdunar::{EdgeRule, Frame, Grid, InterleaveMode};
+/// use gezdunar::{EdgeRule, Frame, Grid, InterleaveMode, Widths};
 /// // 2 rows by 3 columns of 4 bits, in blocks of 2 by 2: block (0, 1) has one column in the picture.
 /// for (edges, bytes) in [(EdgeRule::Tight, [0x59, 0x00]), (EdgeRule::Full, [0x50, 0x90])] {
-///     let mut frame = Frame::new(Grid::new(2, 3, 1, 4, InterleaveMode::B, edges, 2, 2))?;
+///     let mut frame = Frame::new(Grid::new(2, 3, 1, 4, InterleaveMode::B, edges, 2, 2), Widths::STANDARD)?;
 ///     frame.encode_block(0, 1, frame.grid().block_shape(0, 1), &[5, 9])?;
 ///     assert_eq!(frame.image()[2..], bytes);
 /// }

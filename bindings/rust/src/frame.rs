@@ -1,15 +1,15 @@
 //! A frame that owns its image and its marks.
 
 use crate::vectors::zeros;
-use crate::{encode_block, finalize, progress, relay, skip_block, start, Grid, Refusal, Shape};
+use crate::{encode_block, finalize, progress, relay, skip_block, start, Grid, Refusal, Shape, Widths};
 
-/// An image that is being written, its marks and its grid.
+/// An image that is being written, its marks, its grid and the width table that each of its calls is handed.
 ///
 /// ```
 /// # fn main() -> Result<(), gezdunar::Refusal> {
-/// use gezdunar::{EdgeRule, Frame, Grid, InterleaveMode, Refusal};
+/// use gezdunar::{EdgeRule, Frame, Grid, InterleaveMode, Refusal, Widths};
 /// let grid = Grid::new(1, 2, 1, 8, InterleaveMode::B, EdgeRule::Full, 1, 1);
-/// let mut frame = Frame::new(grid)?;
+/// let mut frame = Frame::new(grid, Widths::STANDARD)?;
 /// frame.encode_block(0, 0, grid.block_shape(0, 0), &[9])?;
 /// assert_eq!(frame.progress()?, 1);
 /// assert_eq!(frame.finalize(), Err(Refusal::UnmarkedBlock { row: 0, column: 1 }));
@@ -22,6 +22,7 @@ use crate::{encode_block, finalize, progress, relay, skip_block, start, Grid, Re
 #[derive(Debug, Clone, PartialEq, Eq)]
 pub struct Frame {
     grid: Grid,
+    widths: Widths,
     image: Vec<u8>,
     marks: Vec<u64>,
 }
@@ -31,74 +32,74 @@ impl Frame {
     /// the image or the marks.
     ///
     /// ```
-    /// use gezdunar::{EdgeRule, Frame, Grid, InterleaveMode};
-    /// assert!(Frame::new(Grid::new(1, 2, 1, 8, InterleaveMode::B, EdgeRule::Full, 1, 1)).is_ok());
+    /// use gezdunar::{EdgeRule, Frame, Grid, InterleaveMode, Widths};
+    /// assert!(Frame::new(Grid::new(1, 2, 1, 8, InterleaveMode::B, EdgeRule::Full, 1, 1), Widths::STANDARD).is_ok());
     /// ```
-    pub fn new(grid: Grid) -> Result<Frame, Refusal> {
-        let sizes = grid.sizes()?;
+    pub fn new(grid: Grid, widths: Widths) -> Result<Frame, Refusal> {
+        let sizes = grid.sizes(&widths)?;
         let mut image = zeros(sizes.image_bytes, Refusal::ImageTooShort)?;
         let mut marks = zeros(sizes.mark_words, Refusal::MarksTooShort)?;
-        start(&mut image, &mut marks, &grid)?;
-        Ok(Frame { grid, image, marks })
+        start(&mut image, &mut marks, &grid, &widths)?;
+        Ok(Frame { grid, widths, image, marks })
     }
 
     /// Stores the samples of a block and marks it, as the function [`encode_block`] does. Numbers: 6, 13, 14, 26.
     ///
     /// ```
     /// # fn main() -> Result<(), gezdunar::Refusal> {
-    /// # use gezdunar::{EdgeRule, Frame, Grid, InterleaveMode};
-    /// let mut frame = Frame::new(Grid::new(1, 2, 1, 8, InterleaveMode::B, EdgeRule::Full, 1, 1))?;
+    /// # use gezdunar::{EdgeRule, Frame, Grid, InterleaveMode, Widths};
+    /// let mut frame = Frame::new(Grid::new(1, 2, 1, 8, InterleaveMode::B, EdgeRule::Full, 1, 1), Widths::STANDARD)?;
     /// frame.encode_block(0, 1, frame.grid().block_shape(0, 1), &[9])?;
     /// assert_eq!(frame.image(), [0, 9]);
     /// # Ok(())
     /// # }
     /// ```
     pub fn encode_block(&mut self, block_row: u32, block_col: u32, shape: Shape, data: &[u8]) -> Result<(), Refusal> {
-        encode_block(&mut self.image, &mut self.marks, &self.grid, block_row, block_col, shape, data)
+        encode_block(&mut self.image, &mut self.marks, &self.grid, &self.widths, block_row, block_col, shape, data)
     }
 
     /// Marks a block and keeps its bytes. Number: 6.
     ///
     /// ```
     /// # fn main() -> Result<(), gezdunar::Refusal> {
-    /// # use gezdunar::{EdgeRule, Frame, Grid, InterleaveMode};
-    /// let mut frame = Frame::new(Grid::new(1, 2, 1, 8, InterleaveMode::B, EdgeRule::Full, 1, 1))?;
+    /// # use gezdunar::{EdgeRule, Frame, Grid, InterleaveMode, Widths};
+    /// let mut frame = Frame::new(Grid::new(1, 2, 1, 8, InterleaveMode::B, EdgeRule::Full, 1, 1), Widths::STANDARD)?;
     /// frame.skip_block(0, 1)?;
     /// assert_eq!(frame.marks(), [2]);
     /// # Ok(())
     /// # }
     /// ```
     pub fn skip_block(&mut self, block_row: u32, block_col: u32) -> Result<(), Refusal> {
-        skip_block(&self.image, &mut self.marks, &self.grid, block_row, block_col)
+        skip_block(&self.image, &mut self.marks, &self.grid, &self.widths, block_row, block_col)
     }
 
     /// How many blocks are marked.
     ///
     /// ```
     /// # fn main() -> Result<(), gezdunar::Refusal> {
-    /// # use gezdunar::{EdgeRule, Frame, Grid, InterleaveMode};
-    /// let mut frame = Frame::new(Grid::new(1, 2, 1, 8, InterleaveMode::B, EdgeRule::Full, 1, 1))?;
+    /// # use gezdunar::{EdgeRule, Frame, Grid, InterleaveMode, Widths};
+    /// let mut frame = Frame::new(Grid::new(1, 2, 1, 8, InterleaveMode::B, EdgeRule::Full, 1, 1), Widths::STANDARD)?;
     /// frame.skip_block(0, 0)?;
     /// assert_eq!(frame.progress()?, 1);
     /// # Ok(())
     /// # }
     /// ```
     pub fn progress(&self) -> Result<usize, Refusal> {
-        progress(&self.marks, &self.grid)
+        progress(&self.marks, &self.grid, &self.widths)
     }
 
     /// Is every block marked? It changes nothing, so that more blocks may follow. Number: 15.
     ///
     /// ```
     /// # fn main() -> Result<(), gezdunar::Refusal> {
-    /// # use gezdunar::{EdgeRule, Frame, Grid, InterleaveMode, Refusal};
-    /// let frame = Frame::new(Grid::new(1, 2, 1, 8, InterleaveMode::B, EdgeRule::Full, 1, 1))?;
+    /// # use gezdunar::{EdgeRule, Frame, Grid, InterleaveMode, Refusal, Widths};
+    /// let frame = Frame::new(Grid::new(1, 2, 1, 8, InterleaveMode::B, EdgeRule::Full, 1, 1), Widths::STANDARD)?;
     /// assert_eq!(frame.finalize(), Err(Refusal::UnmarkedBlock { row: 0, column: 0 }));
     /// # Ok(())
     /// # }
     /// ```
     pub fn finalize(&self) -> Result<(), Refusal> {
-        finalize(&self.image, &self.marks, &self.grid)
+        finalize(&self.image, &self.marks, &self.grid, &self.widths)
     }
 
     /// Lays every block anew, from tight edge blocks to full ones, and goes on under the full edge rule, as the function
@@ -107,8 +108,8 @@ impl Frame {
     ///
     /// ```
     /// # fn main() -> Result<(), gezdunar::Refusal> {
-    /// # use gezdunar::{EdgeRule, Frame, Grid, InterleaveMode};
-    /// let mut frame = Frame::new(Grid::new(2, 3, 1, 4, InterleaveMode::B, EdgeRule::Tight, 2, 2))?;
+    /// # use gezdunar::{EdgeRule, Frame, Grid, InterleaveMode, Widths};
+    /// let mut frame = Frame::new(Grid::new(2, 3, 1, 4, InterleaveMode::B, EdgeRule::Tight, 2, 2), Widths::STANDARD)?;
     /// frame.encode_block(0, 1, frame.grid().block_shape(0, 1), &[5, 9])?;
     /// assert_eq!(frame.image(), [0, 0, 0x59, 0x00]);
     /// frame.relay()?;
@@ -118,14 +119,19 @@ impl Frame {
     /// # }
     /// ```
     pub fn relay(&mut self) -> Result<(), Refusal> {
-        let mut scratch = zeros(self.grid.sizes()?.block_bytes, Refusal::OutputTooShort)?;
-        self.grid = relay(&mut self.image, &self.marks, &self.grid, &mut scratch)?;
+        let mut scratch = zeros(self.grid.sizes(&self.widths)?.block_bytes, Refusal::OutputTooShort)?;
+        self.grid = relay(&mut self.image, &self.marks, &self.grid, &self.widths, &mut scratch)?;
         Ok(())
     }
 
     /// The grid.
     pub fn grid(&self) -> &Grid {
         &self.grid
+    }
+
+    /// The width table.
+    pub fn widths(&self) -> &Widths {
+        &self.widths
     }
 
     /// The image's bytes.

@@ -2,7 +2,7 @@
 
 use crate::boundary;
 use crate::refusal::accepted;
-use crate::{EdgeRule, InterleaveMode, Refusal};
+use crate::{EdgeRule, InterleaveMode, Refusal, Widths};
 
 /// A picture in blocks. The fields have the names of MIL-STD-2500C, but for `bands`, its NBANDS or XBANDS. It crosses
 /// the C boundary as it is: the header's struct `gezdunar_grid`.
@@ -88,31 +88,32 @@ impl Grid {
         boundary::grid(nrows, ncols, bands, nbpp, imode, edges, nppbv, nppbh)
     }
 
-    /// Questions 1 to 4. Numbers: 1 to 4.
+    /// Questions 1 to 4, the second with a width table. Numbers: 1 to 4.
     ///
     /// ```
-    /// use gezdunar::{EdgeRule, Grid, InterleaveMode, Refusal};
+    /// use gezdunar::{EdgeRule, Grid, InterleaveMode, Refusal, Widths};
     /// let grid = Grid::new(3, 5, 2, 8, InterleaveMode::B, EdgeRule::Full, 4, 2);
-    /// assert_eq!(grid.check(), Ok(()));
-    /// assert_eq!(Grid { nbpr: 1, ..grid }.check(), Err(Refusal::BlockCounts));
+    /// assert_eq!(grid.check(&Widths::STANDARD), Ok(()));
+    /// assert_eq!(Grid { nbpr: 1, ..grid }.check(&Widths::STANDARD), Err(Refusal::BlockCounts));
     /// ```
-    pub fn check(&self) -> Result<(), Refusal> {
-        accepted(boundary::grid_check(self))
+    pub fn check(&self, widths: &Widths) -> Result<(), Refusal> {
+        accepted(boundary::grid_check(self, widths))
     }
 
     /// The sizes of an accepted grid. Numbers: 1 to 4.
     ///
     /// ```
     /// # fn main() -> Result<(), gezdunar::Refusal> {
-    /// use gezdunar::{EdgeRule, Grid, InterleaveMode};
-    /// let sizes = Grid::new(3, 5, 2, 8, InterleaveMode::B, EdgeRule::Full, 4, 2).sizes()?;
+    /// use gezdunar::{EdgeRule, Grid, InterleaveMode, Widths};
+    /// let grid = Grid::new(3, 5, 2, 8, InterleaveMode::B, EdgeRule::Full, 4, 2);
+    /// let sizes = grid.sizes(&Widths::STANDARD)?;
     /// assert_eq!((sizes.sample_bytes, sizes.band_bytes, sizes.block_bytes, sizes.image_bytes), (1, 8, 16, 64));
     /// assert_eq!((sizes.blocks, sizes.mark_words), (4, 1));
     /// # Ok(())
     /// # }
     /// ```
-    pub fn sizes(&self) -> Result<Sizes, Refusal> {
-        let answer = boundary::grid_sizes(self);
+    pub fn sizes(&self, widths: &Widths) -> Result<Sizes, Refusal> {
+        let answer = boundary::grid_sizes(self, widths);
         accepted(answer.number)?;
         Ok(Sizes {
             sample_bytes: answer.sample_bytes,

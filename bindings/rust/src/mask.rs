@@ -3,7 +3,7 @@
 use crate::boundary;
 use crate::refusal::accepted;
 use crate::vectors::filled;
-use crate::{Grid, InterleaveMode, Refusal};
+use crate::{Grid, InterleaveMode, Refusal, Widths};
 
 /// The offset that marks an empty block.
 pub const EMPTY_BLOCK_OFFSET: u32 = 0xFFFF_FFFF;
@@ -42,16 +42,16 @@ fn parsed(answer: boundary::Parsed) -> Result<Parsed, Refusal> {
 ///
 /// ```
 /// # fn main() -> Result<(), gezdunar::Refusal> {
-/// use gezdunar::{mask_parse, EdgeRule, Grid, InterleaveMode};
+/// use gezdunar::{mask_parse, EdgeRule, Grid, InterleaveMode, Widths};
 /// let grid = Grid::new(1, 2, 1, 8, InterleaveMode::B, EdgeRule::Full, 1, 1);
 /// let table = [0, 0, 0, 18, 0, 4, 0, 0, 0, 0, 0, 0, 0, 0, 255, 255, 255, 255];
-/// let parsed = mask_parse(&table, &grid)?;
+/// let parsed = mask_parse(&table, &grid, &Widths::STANDARD)?;
 /// assert_eq!((parsed.mask.block_mask_record_length, parsed.used), (4, 18));
 /// # Ok(())
 /// # }
 /// ```
-pub fn mask_parse(table: &[u8], grid: &Grid) -> Result<Parsed, Refusal> {
-    parsed(boundary::mask_parse(table, grid))
+pub fn mask_parse(table: &[u8], grid: &Grid, widths: &Widths) -> Result<Parsed, Refusal> {
+    parsed(boundary::mask_parse(table, grid, widths))
 }
 
 /// Writes a table into the front of `out` and answers its bytes. IMDATOFF is the table's own size, whatever
@@ -60,23 +60,24 @@ pub fn mask_parse(table: &[u8], grid: &Grid) -> Result<Parsed, Refusal> {
 ///
 /// ```
 /// # fn main() -> Result<(), gezdunar::Refusal> {
-/// use gezdunar::{mask_write, EdgeRule, Grid, ImageDataMask, InterleaveMode, EMPTY_BLOCK_OFFSET};
+/// use gezdunar::{mask_write, EdgeRule, Grid, ImageDataMask, InterleaveMode, Widths, EMPTY_BLOCK_OFFSET};
 /// let grid = Grid::new(1, 2, 1, 8, InterleaveMode::B, EdgeRule::Full, 1, 1);
 /// let mask = ImageDataMask { block_mask_record_length: 4, ..ImageDataMask::default() };
 /// let mut table = [0; 18];
-/// assert_eq!(mask_write(&grid, &mask, &[0, EMPTY_BLOCK_OFFSET], &[], &mut table)?, 18);
+/// assert_eq!(mask_write(&grid, &Widths::STANDARD, &mask, &[0, EMPTY_BLOCK_OFFSET], &[], &mut table)?, 18);
 /// assert_eq!(table, [0, 0, 0, 18, 0, 4, 0, 0, 0, 0, 0, 0, 0, 0, 255, 255, 255, 255]);
 /// # Ok(())
 /// # }
 /// ```
 pub fn mask_write(
     grid: &Grid,
+    widths: &Widths,
     mask: &ImageDataMask,
     block_offsets: &[u32],
     pad_offsets: &[u32],
     out: &mut [u8],
 ) -> Result<usize, Refusal> {
-    let answer = boundary::mask_write(grid, mask, block_offsets, pad_offsets, out);
+    let answer = boundary::mask_write(grid, widths, mask, block_offsets, pad_offsets, out);
     accepted(answer.number)?;
     Ok(answer.bytes)
 }
@@ -85,15 +86,16 @@ pub fn mask_write(
 ///
 /// ```
 /// # fn main() -> Result<(), gezdunar::Refusal> {
-/// use gezdunar::{mask_write_vec, EdgeRule, Grid, ImageDataMask, InterleaveMode};
+/// use gezdunar::{mask_write_vec, EdgeRule, Grid, ImageDataMask, InterleaveMode, Widths};
 /// let grid = Grid::new(1, 2, 1, 8, InterleaveMode::B, EdgeRule::Full, 1, 1);
-/// let table = mask_write_vec(&grid, &ImageDataMask::default(), &[], &[])?;
+/// let table = mask_write_vec(&grid, &Widths::STANDARD, &ImageDataMask::default(), &[], &[])?;
 /// assert_eq!(table, [0, 0, 0, 10, 0, 0, 0, 0, 0, 0]);
 /// # Ok(())
 /// # }
 /// ```
 pub fn mask_write_vec(
     grid: &Grid,
+    widths: &Widths,
     mask: &ImageDataMask,
     block_offsets: &[u32],
     pad_offsets: &[u32],
@@ -101,7 +103,7 @@ pub fn mask_write_vec(
     let code = usize::from(mask.pad_pixel_code_length.div_ceil(8));
     let records = block_offsets.len().saturating_add(pad_offsets.len()).saturating_mul(4);
     let length = records.saturating_add(code).saturating_add(10);
-    let (_, table) = filled(length, |out| mask_write(grid, mask, block_offsets, pad_offsets, out))?;
+    let (_, table) = filled(length, |out| mask_write(grid, widths, mask, block_offsets, pad_offsets, out))?;
     Ok(table)
 }
 
@@ -109,15 +111,23 @@ pub fn mask_write_vec(
 ///
 /// ```
 /// # fn main() -> Result<(), gezdunar::Refusal> {
-/// use gezdunar::{has_block, EdgeRule, Grid, InterleaveMode};
+/// use gezdunar::{has_block, EdgeRule, Grid, InterleaveMode, Widths};
 /// let grid = Grid::new(1, 2, 1, 8, InterleaveMode::B, EdgeRule::Full, 1, 1);
 /// let table = [0, 0, 0, 18, 0, 4, 0, 0, 0, 0, 0, 0, 0, 0, 255, 255, 255, 255];
-/// assert_eq!((has_block(&table, &grid, 0, 0, 0)?, has_block(&table, &grid, 0, 1, 0)?), (true, false));
+/// let present = |column| has_block(&table, &grid, &Widths::STANDARD, 0, column, 0);
+/// assert_eq!((present(0)?, present(1)?), (true, false));
 /// # Ok(())
 /// # }
 /// ```
-pub fn has_block(table: &[u8], grid: &Grid, block_row: u32, block_col: u32, band: u32) -> Result<bool, Refusal> {
-    let answer = boundary::has_block(table, grid, block_row, block_col, band);
+pub fn has_block(
+    table: &[u8],
+    grid: &Grid,
+    widths: &Widths,
+    block_row: u32,
+    block_col: u32,
+    band: u32,
+) -> Result<bool, Refusal> {
+    let answer = boundary::has_block(table, grid, widths, block_row, block_col, band);
     accepted(answer.number)?;
     Ok(answer.present)
 }
@@ -127,22 +137,23 @@ pub fn has_block(table: &[u8], grid: &Grid, block_row: u32, block_col: u32, band
 ///
 /// ```
 /// # fn main() -> Result<(), gezdunar::Refusal> {
-/// use gezdunar::{get_block_offset, EdgeRule, Grid, InterleaveMode};
+/// use gezdunar::{get_block_offset, EdgeRule, Grid, InterleaveMode, Widths};
 /// let grid = Grid::new(1, 2, 1, 8, InterleaveMode::B, EdgeRule::Full, 1, 1);
 /// let table = [0, 0, 0, 18, 0, 4, 0, 0, 0, 0, 0, 0, 0, 0, 255, 255, 255, 255];
-/// assert_eq!(get_block_offset(&table, &grid, 0, 0, 0)?, Some(0));
-/// assert_eq!(get_block_offset(&table, &grid, 0, 1, 0)?, None);
+/// assert_eq!(get_block_offset(&table, &grid, &Widths::STANDARD, 0, 0, 0)?, Some(0));
+/// assert_eq!(get_block_offset(&table, &grid, &Widths::STANDARD, 0, 1, 0)?, None);
 /// # Ok(())
 /// # }
 /// ```
 pub fn get_block_offset(
     table: &[u8],
     grid: &Grid,
+    widths: &Widths,
     block_row: u32,
     block_col: u32,
     band: u32,
 ) -> Result<Option<u32>, Refusal> {
-    let answer = boundary::get_block_offset(table, grid, block_row, block_col, band);
+    let answer = boundary::get_block_offset(table, grid, widths, block_row, block_col, band);
     accepted(answer.number)?;
     Ok(answer.given.then_some(answer.offset))
 }
@@ -152,36 +163,36 @@ pub fn get_block_offset(
 ///
 /// ```
 /// # fn main() -> Result<(), gezdunar::Refusal> {
-/// use gezdunar::{mask_from_marks, EdgeRule, Grid, InterleaveMode, EMPTY_BLOCK_OFFSET};
+/// use gezdunar::{mask_from_marks, EdgeRule, Grid, InterleaveMode, Widths, EMPTY_BLOCK_OFFSET};
 /// let grid = Grid::new(1, 2, 1, 8, InterleaveMode::B, EdgeRule::Full, 1, 1);
 /// let mut offsets = [7; 2];
-/// let parsed = mask_from_marks(&[1], &grid, &mut offsets)?;
+/// let parsed = mask_from_marks(&[1], &grid, &Widths::STANDARD, &mut offsets)?;
 /// assert_eq!((parsed.mask.block_mask_record_length, parsed.used), (4, 2));
 /// assert_eq!(offsets, [0, EMPTY_BLOCK_OFFSET]);
 /// # Ok(())
 /// # }
 /// ```
-pub fn mask_from_marks(marks: &[u64], grid: &Grid, out: &mut [u32]) -> Result<Parsed, Refusal> {
-    parsed(boundary::mask_from_marks(marks, grid, out))
+pub fn mask_from_marks(marks: &[u64], grid: &Grid, widths: &Widths, out: &mut [u32]) -> Result<Parsed, Refusal> {
+    parsed(boundary::mask_from_marks(marks, grid, widths, out))
 }
 
 /// [`mask_from_marks`] with a vector of exact size.
 ///
 /// ```
 /// # fn main() -> Result<(), gezdunar::Refusal> {
-/// use gezdunar::{mask_from_marks_vec, EdgeRule, Grid, InterleaveMode, EMPTY_BLOCK_OFFSET};
+/// use gezdunar::{mask_from_marks_vec, EdgeRule, Grid, InterleaveMode, Widths, EMPTY_BLOCK_OFFSET};
 /// let grid = Grid::new(1, 2, 1, 8, InterleaveMode::B, EdgeRule::Full, 1, 1);
-/// let (mask, offsets) = mask_from_marks_vec(&[2], &grid)?;
+/// let (mask, offsets) = mask_from_marks_vec(&[2], &grid, &Widths::STANDARD)?;
 /// assert_eq!((mask.block_mask_record_length, offsets), (4, vec![EMPTY_BLOCK_OFFSET, 0]));
 /// # Ok(())
 /// # }
 /// ```
-pub fn mask_from_marks_vec(marks: &[u64], grid: &Grid) -> Result<(ImageDataMask, Vec<u32>), Refusal> {
-    let blocks = grid.sizes()?.blocks;
+pub fn mask_from_marks_vec(marks: &[u64], grid: &Grid, widths: &Widths) -> Result<(ImageDataMask, Vec<u32>), Refusal> {
+    let blocks = grid.sizes(widths)?.blocks;
     let records = match grid.imode {
         InterleaveMode::S => blocks.saturating_mul(grid.bands as usize),
         _ => blocks,
     };
-    let (parsed, offsets) = filled(records, |out| mask_from_marks(marks, grid, out))?;
+    let (parsed, offsets) = filled(records, |out| mask_from_marks(marks, grid, widths, out))?;
     Ok((parsed.mask, offsets))
 }

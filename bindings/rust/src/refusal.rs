@@ -6,8 +6,9 @@ use std::fmt;
 /// What was wrong first, in the order in which a call asks its questions. A refused call has written nothing.
 ///
 /// ```
-/// use gezdunar::{EdgeRule, Grid, InterleaveMode, Refusal};
-/// let refusal = Grid::new(3, 5, 2, 17, InterleaveMode::B, EdgeRule::Full, 4, 2).check().unwrap_err();
+/// use gezdunar::{EdgeRule, Grid, InterleaveMode, Refusal, Widths};
+/// let grid = Grid::new(3, 5, 2, 17, InterleaveMode::B, EdgeRule::Full, 4, 2);
+/// let refusal = grid.check(&Widths::STANDARD).unwrap_err();
 /// assert_eq!((refusal, refusal.number()), (Refusal::Width, 2));
 /// assert_eq!(refusal.to_string(), "2: the width or sample size is not one that is taken");
 /// ```
@@ -16,7 +17,8 @@ use std::fmt;
 pub enum Refusal {
     /// 1: NROWS, NCOLS, NPPBH, NPPBV or the count of bands is outside its limits.
     Limits,
-    /// 2: NBPP is not 1 to 16, 24 to 32, 40, 48, 56 or 64; in a reordering, a sample does not have 1 to 8 bytes.
+    /// 2: NBPP is not 1 to 16, 24 to 32, 40, 48, 56 or 64, or the width table bars it; in a reordering, a sample does
+    /// not have 1 to 8 bytes.
     Width,
     /// 3: NBPR or NBPC does not follow from the rest, or is more than 9,999.
     BlockCounts,
@@ -71,6 +73,8 @@ pub enum Refusal {
     SampleBits,
     /// 27: the edge rule is full already.
     AlreadyFull,
+    /// 33: a width table to load does not have 68 bytes, or its length, its version or an entry is wrong.
+    WidthTable,
     /// 99: a byte or a text that is no mode, or no edge rule.
     NoMode,
     /// A number that has no name here.
@@ -115,6 +119,7 @@ impl Refusal {
             24 => Refusal::NamedValue,
             26 => Refusal::SampleBits,
             27 => Refusal::AlreadyFull,
+            33 => Refusal::WidthTable,
             99 => Refusal::NoMode,
             other => Refusal::Unknown(other),
         })
@@ -153,6 +158,7 @@ impl Refusal {
             Refusal::NamedValue => 24,
             Refusal::SampleBits => 26,
             Refusal::AlreadyFull => 27,
+            Refusal::WidthTable => 33,
             Refusal::NoMode => 99,
             Refusal::Unknown(number) => number,
         }
@@ -187,6 +193,9 @@ impl Refusal {
             Refusal::NamedValue => "PVTYPE, PJUST, IC or IMODE has no named value, or ABPP is above 99",
             Refusal::SampleBits => "a sample has a bit above NBPP",
             Refusal::AlreadyFull => "the edge rule is full already",
+            Refusal::WidthTable => {
+                "a width table has another length than 68 bytes, or a wrong length, version or entry"
+            }
             Refusal::NoMode => "the mode is none of B, P, R and S, or the edge rule none of T and F",
             Refusal::Unknown(_) => "refused with a number that has no name here",
         }

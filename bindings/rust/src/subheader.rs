@@ -2,7 +2,7 @@
 
 use crate::boundary;
 use crate::refusal::accepted;
-use crate::{EdgeRule, Grid, ImageCompression, InterleaveMode, PixelJustification, PixelValueType, Refusal};
+use crate::{EdgeRule, Grid, ImageCompression, InterleaveMode, PixelJustification, PixelValueType, Refusal, Widths};
 
 /// Three parts of an image subheader: NROWS to PJUST, IC, and IMODE to NBPP.
 pub type SubheaderParts = ([u8; 38], [u8; 2], [u8; 19]);
@@ -12,11 +12,11 @@ pub type SubheaderParts = ([u8; 38], [u8; 2], [u8; 19]);
 ///
 /// ```
 /// # fn main() -> Result<(), gezdunar::Refusal> {
-/// use gezdunar::{EdgeRule, ImageSubheader};
+/// use gezdunar::{EdgeRule, ImageSubheader, Widths};
 /// let (first, second, third) = (b"0000020300000317INTMULTI   MS      12R", b"NC", b"P000700040048006412");
-/// let subheader = ImageSubheader::read(first, second, third, 5, EdgeRule::Full)?;
+/// let subheader = ImageSubheader::read(first, second, third, 5, EdgeRule::Full, &Widths::STANDARD)?;
 /// assert_eq!((subheader.grid.nrows, subheader.grid.ncols), (203, 317));
-/// assert_eq!(subheader.to_parts()?, (*first, *second, *third));
+/// assert_eq!(subheader.to_parts(&Widths::STANDARD)?, (*first, *second, *third));
 /// # Ok(())
 /// # }
 /// ```
@@ -53,10 +53,10 @@ impl ImageSubheader {
     ///
     /// ```
     /// # fn main() -> Result<(), gezdunar::Refusal> {
-    /// use gezdunar::{EdgeRule, ImageSubheader, PixelValueType, Refusal};
+    /// use gezdunar::{EdgeRule, ImageSubheader, PixelValueType, Refusal, Widths};
     /// // One block of 2 rows and 9,000 columns.
     /// let (first, third) = (b"0000000200009000INTMONO    VIS     08R", b"B000100010000000208");
-    /// let read = |ic: &[u8]| ImageSubheader::read(first, ic, third, 1, EdgeRule::Full);
+    /// let read = |ic: &[u8]| ImageSubheader::read(first, ic, third, 1, EdgeRule::Full, &Widths::STANDARD);
     /// let subheader = read(b"NC")?;
     /// assert_eq!((subheader.pvtype, &subheader.irep), (PixelValueType::UnsignedInt, b"MONO    "));
     /// assert_eq!((subheader.grid.nppbh, subheader.grid.nppbv), (9_000, 2));
@@ -71,8 +71,9 @@ impl ImageSubheader {
         third: &[u8],
         bands: u32,
         edges: EdgeRule,
+        widths: &Widths,
     ) -> Result<ImageSubheader, Refusal> {
-        let answer = boundary::subheader_read(first, second, third, bands, edges);
+        let answer = boundary::subheader_read(first, second, third, bands, edges, widths);
         accepted(answer.number)?;
         from_boundary(&answer.subheader)
     }
@@ -85,7 +86,7 @@ impl ImageSubheader {
     /// # fn main() -> Result<(), gezdunar::Refusal> {
     /// use gezdunar::{
     ///     EdgeRule, Grid, ImageCompression, ImageSubheader, InterleaveMode, PixelJustification, PixelValueType,
-    ///     Refusal,
+    ///     Refusal, Widths,
     /// };
     /// let subheader = ImageSubheader {
     ///     pvtype: PixelValueType::UnsignedInt,
@@ -97,33 +98,34 @@ impl ImageSubheader {
     ///     grid: Grid::new(2, 9_000, 1, 8, InterleaveMode::B, EdgeRule::Full, 9_000, 2),
     /// };
     /// let (mut first, mut second, mut third) = ([0; 38], [0; 2], [0; 19]);
-    /// subheader.write(&mut first, &mut second, &mut third)?;
+    /// subheader.write(&Widths::STANDARD, &mut first, &mut second, &mut third)?;
     /// assert_eq!((&first, &second), (b"0000000200009000INTMONO    VIS     08R", b"NC"));
     /// assert_eq!(&third, b"B000100010000000208");
-    /// assert_eq!(subheader.write(&mut first, &mut second, &mut []), Err(Refusal::OutputTooShort));
+    /// assert_eq!(subheader.write(&Widths::STANDARD, &mut first, &mut second, &mut []), Err(Refusal::OutputTooShort));
     /// # Ok(())
     /// # }
     /// ```
-    pub fn write(&self, first: &mut [u8], second: &mut [u8], third: &mut [u8]) -> Result<(), Refusal> {
-        accepted(boundary::subheader_write(to_boundary(self), first, second, third))
+    pub fn write(&self, widths: &Widths, first: &mut [u8], second: &mut [u8], third: &mut [u8]) -> Result<(), Refusal> {
+        accepted(boundary::subheader_write(to_boundary(self), widths, first, second, third))
     }
 
     /// [`write`](Self::write) into three arrays of exact size. Numbers: 1 to 4, 24.
     ///
     /// ```
     /// # fn main() -> Result<(), gezdunar::Refusal> {
-    /// use gezdunar::{EdgeRule, ImageSubheader, Refusal};
+    /// use gezdunar::{EdgeRule, ImageSubheader, Refusal, Widths};
     /// let first = b"0000020300000317INTMULTI   MS      12R";
-    /// let subheader = ImageSubheader::read(first, b"NM", b"P000700040048006412", 5, EdgeRule::Full)?;
-    /// let (written, ic, _) = subheader.to_parts()?;
+    /// let (third, widths) = (b"P000700040048006412", Widths::STANDARD);
+    /// let subheader = ImageSubheader::read(first, b"NM", third, 5, EdgeRule::Full, &widths)?;
+    /// let (written, ic, _) = subheader.to_parts(&widths)?;
     /// assert_eq!((&written, &ic), (first, b"NM"));
-    /// assert_eq!(ImageSubheader { abpp: 100, ..subheader }.to_parts(), Err(Refusal::NamedValue));
+    /// assert_eq!(ImageSubheader { abpp: 100, ..subheader }.to_parts(&widths), Err(Refusal::NamedValue));
     /// # Ok(())
     /// # }
     /// ```
-    pub fn to_parts(&self) -> Result<SubheaderParts, Refusal> {
+    pub fn to_parts(&self, widths: &Widths) -> Result<SubheaderParts, Refusal> {
         let mut parts = ([0; Self::FIRST_BYTES], [0; Self::SECOND_BYTES], [0; Self::THIRD_BYTES]);
-        self.write(&mut parts.0, &mut parts.1, &mut parts.2)?;
+        self.write(widths, &mut parts.0, &mut parts.1, &mut parts.2)?;
         Ok(parts)
     }
 }

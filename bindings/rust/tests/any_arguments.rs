@@ -1,5 +1,5 @@
-//! Every call on arguments of any kind: none panics, and a refused one leaves every lent byte as it was. Whole blocks,
-//! writes, progress, finish, parse, lookup and the reader of a subheader answer as expected.
+//! Every call on arguments of any kind, tables of widths too: none panics, and a refused one leaves every lent byte as
+//! it was. Whole blocks, writes, progress, finish, parse, lookup and the reader of a subheader answer as expected.
 
 mod common;
 
@@ -9,7 +9,7 @@ use gezdunar::{
     fused_bip_to_bsq, fused_bip_to_bsq_vec, get_block_offset, has_block, mask_from_marks, mask_from_marks_vec,
     mask_parse, mask_write, mask_write_vec, progress, read_window, read_window_vec, relay, skip_block, start,
     to_band_sequential, to_band_sequential_vec, whole_block, Bands, EdgeRule, Frame, Grid, ImageDataMask,
-    ImageSubheader, InterleaveMode, Refusal, Shape, Window,
+    ImageSubheader, InterleaveMode, Refusal, Shape, Widths, Window,
 };
 
 const NUMBERS: [u32; 14] = [0, 1, 2, 3, 4, 7, 8, 33, 64, 8_193, 99_999, 100_000_000, 0x8000_0000, u32::MAX];
@@ -66,6 +66,18 @@ impl Random {
             _ => {}
         }
         grid
+    }
+
+    /// The constant table, or once in eight times one with an entry changed, that of the grid or another.
+    fn widths(&mut self, grid: &Grid) -> Widths {
+        let mut entries = *Widths::STANDARD.entries();
+        if self.below(8) == 0 {
+            let nbpp = [grid.nbpp as usize, self.below(65)][self.below(2)];
+            if let Some(entry) = entries.get_mut(nbpp) {
+                *entry = self.below(9) as u8;
+            }
+        }
+        Widths::new(entries)
     }
 
     fn bytes(&mut self) -> Box<[u8]> {
@@ -178,8 +190,9 @@ fn alike<A>(number: u32, vector: Result<A, Refusal>) {
 }
 
 /// Compares a whole block with what is expected, its place too. Has it bytes?
-fn whole_block_holds(image: &[u8], grid: &Grid, row: u32, column: u32) -> bool {
-    let (part, expected) = (whole_block(image, grid, row, column), expected::whole_block(image, grid, row, column));
+fn whole_block_holds(image: &[u8], grid: &Grid, widths: &Widths, row: u32, column: u32) -> bool {
+    let (part, expected) =
+        (whole_block(image, grid, widths, row, column), expected::whole_block(image, grid, widths, row, column));
     assert_eq!(part, expected, "{grid:?}");
     let bytes = part.unwrap_or_default();
     assert!(bytes.is_empty() || expected.is_ok_and(|expected| expected.as_ptr() == bytes.as_ptr()), "{grid:?}");
@@ -192,34 +205,43 @@ fn reads() {
     let (mut accepted, mut whole) = (0, 0);
     for _ in 0..3_000 {
         let (grid, image, out, list) = (random.grid(), random.bytes(), random.bytes(), random.list());
+        let widths = &random.widths(&grid);
         let (row, column, level) = (random.number(), random.number(), random.number() / 4);
         let bands = bands(&mut random, &list);
         let window = Window { row, column, rows: random.number(), columns: random.number() };
-        let number = kept(&out, |out| decode_block(&image, &grid, row, column, level, bands, out));
-        alike(number, decode_block_vec(&image, &grid, row, column, level, bands));
+        let number = kept(&out, |out| decode_block(&image, &grid, widths, row, column, level, bands, out));
+        alike(number, decode_block_vec(&image, &grid, widths, row, column, level, bands));
         accepted += u32::from(number == 0);
-        let number = kept(&out, |out| read_window(&image, &grid, window, bands, out));
-        alike(number, read_window_vec(&image, &grid, window, bands));
+        let number = kept(&out, |out| read_window(&image, &grid, widths, window, bands, out));
+        alike(number, read_window_vec(&image, &grid, widths, window, bands));
         accepted += u32::from(number == 0);
-        whole += u32::from(whole_block_holds(&image, &grid, row, column));
+        whole += u32::from(whole_block_holds(&image, &grid, widths, row, column));
     }
     assert!(accepted > 200 && whole > 200, "{accepted} accepted, {whole} whole blocks");
 }
 
 /// Compares progress and finalize with what is expected. Are some blocks marked, and are all?
-fn marks_hold(image: &[u8], marks: &[u64], grid: &Grid) -> [bool; 2] {
-    let (count, finish) = (progress(marks, grid), finalize(image, marks, grid));
-    assert_eq!(count, expected::progress(marks, grid), "{marks:x?}, {grid:?}");
-    assert_eq!(finish, expected::finalize(image, marks, grid), "{marks:x?}, {grid:?}");
+fn marks_hold(image: &[u8], marks: &[u64], grid: &Grid, widths: &Widths) -> [bool; 2] {
+    let (count, finish) = (progress(marks, grid, widths), finalize(image, marks, grid, widths));
+    assert_eq!(count, expected::progress(marks, grid, widths), "{marks:x?}, {grid:?}");
+    assert_eq!(finish, expected::finalize(image, marks, grid, widths), "{marks:x?}, {grid:?}");
     [count.is_ok_and(|count| count > 0), finish.is_ok()]
 }
 
 /// Writes into copies of image and marks, which must be as before where it is refused, and compares with what is
 /// expected. Answers the number.
-fn write_holds(lent: (&[u8], &[u64]), grid: &Grid, block: (u32, u32), shape: Shape, data: &[u8]) -> u32 {
-    let write = |image: &mut [u8], marks: &mut [u64]| encode_block(image, marks, grid, block.0, block.1, shape, data);
+fn write_holds(
+    lent: (&[u8], &[u64]),
+    grid: &Grid,
+    widths: &Widths,
+    block: (u32, u32),
+    shape: Shape,
+    data: &[u8],
+) -> u32 {
+    let write =
+        |image: &mut [u8], marks: &mut [u64]| encode_block(image, marks, grid, widths, block.0, block.1, shape, data);
     let number = kept(lent.0, |image| kept_marks(lent.1, |marks| write(image, marks)));
-    let expected = expected::encode_block(lent, grid, block, shape, data);
+    let expected = expected::encode_block(lent, grid, widths, block, shape, data);
     assert_eq!(number, expected.map_or_else(Refusal::number, |()| 0), "{data:x?}, {grid:?}");
     number
 }
@@ -230,19 +252,21 @@ fn writes() {
     let (mut accepted, mut too_large, mut counted, mut finished, mut laid) = (0, 0, 0, 0, 0);
     for _ in 0..3_000 {
         let (grid, image, marks) = (random.grid(), random.bytes(), random.marks());
+        let widths = &random.widths(&grid);
         let (row, column) = (random.number(), random.number());
         let other = Shape { bands: random.size(), rows: random.size(), columns: random.size() };
         let shape = [grid.block_shape(row, column), other][random.below(2)];
         let data = random.samples(shape.bytes(grid.nbpp.div_ceil(8) as usize).min(100));
-        accepted += u32::from(kept(&image, |image| kept_marks(&marks, |marks| start(image, marks, &grid))) == 0);
-        let number = write_holds((&image, &marks), &grid, (row, column), shape, &data);
+        accepted +=
+            u32::from(kept(&image, |image| kept_marks(&marks, |marks| start(image, marks, &grid, widths))) == 0);
+        let number = write_holds((&image, &marks), &grid, widths, (row, column), shape, &data);
         (accepted, too_large) = (accepted + u32::from(number == 0), too_large + u32::from(number == 26));
-        accepted += u32::from(kept(&marks, |marks| skip_block(&image, marks, &grid, row, column)) == 0);
-        laid += u32::from(relay_holds(&image, &marks, &grid, [0, 20, 600][random.below(3)]));
-        let [some, all] = marks_hold(&image, &marks, &grid);
+        accepted += u32::from(kept(&marks, |marks| skip_block(&image, marks, &grid, widths, row, column)) == 0);
+        laid += u32::from(relay_holds(&image, &marks, &grid, widths, [0, 20, 600][random.below(3)]));
+        let [some, all] = marks_hold(&image, &marks, &grid, widths);
         (counted, finished) = (counted + u32::from(some), finished + u32::from(all));
-        if grid.sizes().is_ok_and(|sizes| sizes.image_bytes < 1 << 20) {
-            assert!(Frame::new(grid).is_ok());
+        if grid.sizes(widths).is_ok_and(|sizes| sizes.image_bytes < 1 << 20) {
+            assert!(Frame::new(grid, *widths).is_ok());
         }
     }
     let enough = accepted > 500 && too_large > 20 && counted > 500 && finished > 100 && laid > 100;
@@ -251,12 +275,14 @@ fn writes() {
 
 /// Lays a copy of the image anew, with a scratch of so many bytes; both must be as before where it is refused. Compares
 /// with what is expected. Is it accepted?
-fn relay_holds(image: &[u8], marks: &[u64], grid: &Grid, scratch: usize) -> bool {
+fn relay_holds(image: &[u8], marks: &[u64], grid: &Grid, widths: &Widths, scratch: usize) -> bool {
     let (mut laid, mut scratch) = (exact(image), exact(&vec![0xAA; scratch]));
-    let answer = relay(&mut laid, marks, grid, &mut scratch);
-    let expected = match expected::finalize(image, marks, grid) {
+    let answer = relay(&mut laid, marks, grid, widths, &mut scratch);
+    let expected = match expected::finalize(image, marks, grid, widths) {
         Ok(()) | Err(Refusal::UnmarkedBlock { .. }) if grid.edges == EdgeRule::Full => Err(Refusal::AlreadyFull),
-        Ok(()) | Err(Refusal::UnmarkedBlock { .. }) if scratch.len() < grid.sizes().map_or(0, |s| s.block_bytes) => {
+        Ok(()) | Err(Refusal::UnmarkedBlock { .. })
+            if scratch.len() < grid.sizes(widths).map_or(0, |s| s.block_bytes) =>
+        {
             Err(Refusal::OutputTooShort)
         }
         Ok(()) | Err(Refusal::UnmarkedBlock { .. }) => Ok(Grid { edges: EdgeRule::Full, ..*grid }),
@@ -276,12 +302,12 @@ fn kept_marks(before: &[u64], call: impl FnOnce(&mut [u64]) -> Result<(), Refusa
 }
 
 /// Compares parse and lookup with what is expected. Are they accepted?
-fn table_holds(table: &[u8], grid: &Grid, [row, column, band]: [u32; 3]) -> [bool; 2] {
-    let parsed = mask_parse(table, grid);
-    assert_eq!(parsed, expected::mask_parse(table, grid), "{grid:?}");
-    let lookup = expected::lookup(table, grid, row, column, band);
-    assert_eq!(has_block(table, grid, row, column, band), lookup.map(|(present, _)| present), "{grid:?}");
-    assert_eq!(get_block_offset(table, grid, row, column, band), lookup.map(|(_, offset)| offset), "{grid:?}");
+fn table_holds(table: &[u8], grid: &Grid, widths: &Widths, [row, column, band]: [u32; 3]) -> [bool; 2] {
+    let parsed = mask_parse(table, grid, widths);
+    assert_eq!(parsed, expected::mask_parse(table, grid, widths), "{grid:?}");
+    let lookup = expected::lookup(table, grid, widths, row, column, band);
+    assert_eq!(has_block(table, grid, widths, row, column, band), lookup.map(|(present, _)| present), "{grid:?}");
+    assert_eq!(get_block_offset(table, grid, widths, row, column, band), lookup.map(|(_, offset)| offset), "{grid:?}");
     [parsed.is_ok(), lookup.is_ok()]
 }
 
@@ -291,7 +317,8 @@ fn tables() {
     let (mut accepted, mut looked_up) = (0, 0);
     for _ in 0..6_000 {
         let (grid, table) = (random.grid(), random.table());
-        let [parsed, lookup] = table_holds(&table, &grid, [0; 3].map(|_| random.number()));
+        let widths = &random.widths(&grid);
+        let [parsed, lookup] = table_holds(&table, &grid, widths, [0; 3].map(|_| random.number()));
         (accepted, looked_up) = (accepted + u32::from(parsed), looked_up + u32::from(lookup));
     }
     assert!(accepted > 500 && looked_up > 100, "{accepted} parsed, {looked_up} looked up");
@@ -299,15 +326,15 @@ fn tables() {
 
 /// Writes into outputs of some lengths and compares with what is expected: the answer, and whether they are kept. Are
 /// they written?
-fn written(random: &mut Random, fields: &ImageSubheader) -> bool {
+fn written(random: &mut Random, fields: &ImageSubheader, widths: &Widths) -> bool {
     let [mut first, mut second, mut third] = [38, 2, 19].map(|n| exact(&vec![7; n - 1 + random.below(12)]));
     let before = [first.clone(), second.clone(), third.clone()];
-    let expected = match fields.grid.check() {
+    let expected = match fields.grid.check(widths) {
         _ if fields.abpp > 99 => Err(Refusal::NamedValue),
         Ok(()) if first.len() < 38 || second.len() < 2 || third.len() < 19 => Err(Refusal::OutputTooShort),
         answer => answer,
     };
-    assert_eq!(fields.write(&mut first, &mut second, &mut third), expected, "{fields:?}");
+    assert_eq!(fields.write(widths, &mut first, &mut second, &mut third), expected, "{fields:?}");
     assert_eq!([first, second, third] == before, expected.is_err(), "{fields:?}");
     expected.is_ok()
 }
@@ -318,14 +345,15 @@ fn subheaders() {
     let (mut accepted, mut read) = (0, 0);
     for _ in 0..6_000 {
         let grid = [random.grid(), random.grid_of_any_size()][random.below(2)];
+        let widths = &random.widths(&grid);
         let fields = ImageSubheader { abpp: [0, 9, 99, 99, 100][random.below(5)], ..subheader(grid) };
-        accepted += u32::from(written(&mut random, &fields));
-        let Ok((first, second, third)) = fields.to_parts() else { continue };
+        accepted += u32::from(written(&mut random, &fields, widths));
+        let Ok((first, second, third)) = fields.to_parts(widths) else { continue };
         let [first, second, third] = [random.part(&first), random.part(&second), random.part(&third)];
         let bands = [grid.bands, grid.bands, random.number()][random.below(3)];
         let edges = random.rule();
-        let answer = ImageSubheader::read(&first, &second, &third, bands, edges);
-        let expected = expected::subheader_read(&first, &second, &third, bands, edges);
+        let answer = ImageSubheader::read(&first, &second, &third, bands, edges, widths);
+        let expected = expected::subheader_read(&first, &second, &third, bands, edges, widths);
         assert_eq!(answer, expected, "{first:?}{second:?}{third:?}");
         read += u32::from(answer.is_ok());
     }
@@ -338,7 +366,8 @@ fn masks() {
     let mut accepted = 0;
     for _ in 0..3_000 {
         let (grid, out, marks) = (random.grid(), random.bytes(), random.marks());
-        let count = grid.sizes().map_or(0, |sizes| sizes.blocks.min(50));
+        let widths = &random.widths(&grid);
+        let count = grid.sizes(widths).map_or(0, |sizes| sizes.blocks.min(50));
         let [block, pad] = [[0, 4, 4, 5], [0, 0, 4, 65_535]].map(|lengths: [u16; 4]| lengths[random.below(4)]);
         let ([blocks, pads], words) = ([block, pad].map(|n| random.offsets(n, count)), exact(&vec![7; count]));
         let mask = ImageDataMask {
@@ -348,12 +377,12 @@ fn masks() {
             pad_pixel_code_length: [0, 8, 32, 65_535][random.below(4)],
             pad_pixel_code: random.number(),
         };
-        let number = kept(&out, |out| mask_write(&grid, &mask, &blocks, &pads, out));
-        alike(number, mask_write_vec(&grid, &mask, &blocks, &pads));
+        let number = kept(&out, |out| mask_write(&grid, widths, &mask, &blocks, &pads, out));
+        alike(number, mask_write_vec(&grid, widths, &mask, &blocks, &pads));
         accepted += u32::from(number == 0);
-        let number = kept(&words, |words| mask_from_marks(&marks, &grid, words));
+        let number = kept(&words, |words| mask_from_marks(&marks, &grid, widths, words));
         if grid.bands < 1_000 {
-            alike(number, mask_from_marks_vec(&marks, &grid));
+            alike(number, mask_from_marks_vec(&marks, &grid, widths));
         }
     }
     assert!(accepted > 100, "{accepted} written");

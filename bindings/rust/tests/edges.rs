@@ -5,7 +5,8 @@ mod common;
 use common::expected::packed_bit;
 use common::{block_samples, blocks, exact, modes_and_rules, sample, samples, shape, WIDTHS};
 use gezdunar::{
-    decode_block_vec, encode_block, read_window_vec, relay, whole_block, Bands, EdgeRule, Grid, InterleaveMode, Window,
+    decode_block_vec, encode_block, read_window_vec, relay, whole_block, Bands, EdgeRule, Grid, InterleaveMode, Widths,
+    Window,
 };
 
 /// The widths at which the rules differ.
@@ -20,19 +21,19 @@ fn bands(grid: &Grid) -> Vec<u32> {
 
 /// An image in which every byte is this one, with the plain picture written over it.
 fn written_over(byte: u8, grid: &Grid) -> Box<[u8]> {
-    let sizes = grid.sizes().expect("an accepted grid");
+    let sizes = grid.sizes(&Widths::STANDARD).expect("an accepted grid");
     let (mut image, mut marks) = (exact(&vec![byte; sizes.image_bytes]), exact(&vec![0; sizes.mark_words]));
     for (row, column) in blocks(grid) {
         let data = block_samples(grid, &bands(grid), row, column);
         let shape = grid.block_shape(row, column);
-        assert_eq!(encode_block(&mut image, &mut marks, grid, row, column, shape, &data), Ok(()));
+        assert_eq!(encode_block(&mut image, &mut marks, grid, &Widths::STANDARD, row, column, shape, &data), Ok(()));
     }
     image
 }
 
 /// The image of the plain picture at a width that is no byte multiple: the bits of its samples, zeros elsewhere.
 fn expected_image(grid: &Grid) -> Vec<u8> {
-    let mut image = vec![0; grid.sizes().expect("an accepted grid").image_bytes];
+    let mut image = vec![0; grid.sizes(&Widths::STANDARD).expect("an accepted grid").image_bytes];
     for block in blocks(grid) {
         let (rows, columns) = (grid.actual_rows(block.0), grid.actual_columns(block.1));
         let (top, left) = ((block.0 * grid.nppbv) as usize, (block.1 * grid.nppbh) as usize);
@@ -53,14 +54,16 @@ fn expected_image(grid: &Grid) -> Vec<u8> {
 fn reads_hold(image: &[u8], grid: &Grid) {
     let list: Vec<u32> = bands(grid).into_iter().rev().collect();
     for (row, column) in blocks(grid) {
-        let (_, read) = decode_block_vec(image, grid, row, column, 0, Bands::Listed(&list)).expect("an accepted read");
+        let (_, read) = decode_block_vec(image, grid, &Widths::STANDARD, row, column, 0, Bands::Listed(&list))
+            .expect("an accepted read");
         assert_eq!(read, *block_samples(grid, &list, row, column), "{grid:?}");
     }
     for (row, column) in [(0, 0), (1, 2), (2, 5), (4, 6), (4, 0)] {
         let (rows, columns) = (grid.nrows - row, grid.ncols - column);
         for (rows, columns) in [(rows, columns), (1, columns), (rows, 1)] {
             let window = Window { row, column, rows, columns };
-            let (_, read) = read_window_vec(image, grid, window, Bands::Listed(&list)).expect("an accepted window");
+            let (_, read) = read_window_vec(image, grid, &Widths::STANDARD, window, Bands::Listed(&list))
+                .expect("an accepted window");
             let [row, column, rows, columns] = [row, column, rows, columns].map(|number| number as usize);
             assert_eq!(read, *samples(grid, &list, row, column, rows, columns), "{window:?}, {grid:?}");
         }
@@ -96,9 +99,9 @@ fn corner(imode: InterleaveMode, edges: EdgeRule) -> Vec<u8> {
     let grid = Grid::new(3, 7, 2, 12, imode, edges, 4, 2);
     let (mut image, mut marks) = (exact(&[0xFF; 96]), exact(&[0; 1]));
     let data = exact(&[0x0A, 0, 0x0A, 1, 0x0A, 2, 0x0B, 0, 0x0B, 1, 0x0B, 2]);
-    assert_eq!(encode_block(&mut image, &mut marks, &grid, 1, 1, shape(2, 1, 3), &data), Ok(()));
+    assert_eq!(encode_block(&mut image, &mut marks, &grid, &Widths::STANDARD, 1, 1, shape(2, 1, 3), &data), Ok(()));
     assert!(image[..72].iter().all(|&byte| byte == 0xFF));
-    whole_block(&image, &grid, 1, 1).expect("a whole image").to_vec()
+    whole_block(&image, &grid, &Widths::STANDARD, 1, 1).expect("a whole image").to_vec()
 }
 
 /// The bytes of two runs, with zeros up to 12 bytes each.
@@ -174,11 +177,13 @@ fn a_wrong_guess_gives_believable_samples() {
         let [(tight, tight_grid), (full, full_grid)] = both(grid);
         let expected = samples(&grid, &[0, 1, 2], 0, 0, 5, 7);
         for (image, wrong) in [(tight, full_grid), (full, tight_grid)] {
-            let (shape, read) = read_window_vec(&image, &wrong, all, Bands::All).expect("nothing tells the rule");
+            let (shape, read) =
+                read_window_vec(&image, &wrong, &Widths::STANDARD, all, Bands::All).expect("nothing tells the rule");
             assert_eq!(shape, common::shape(3, 5, 7));
             assert_ne!(read, *expected, "{imode}");
             // The blocks that are all inside are read as they are.
-            let (_, inside) = decode_block_vec(&image, &wrong, 0, 0, 0, Bands::All).expect("an accepted read");
+            let (_, inside) =
+                decode_block_vec(&image, &wrong, &Widths::STANDARD, 0, 0, 0, Bands::All).expect("an accepted read");
             assert_eq!(inside, *block_samples(&grid, &[0, 1, 2], 0, 0), "{imode}");
         }
     }
@@ -205,11 +210,11 @@ fn a_relay_leaves_what_full_from_the_start_has() {
             for (bands, nppbh, nppbv) in [(1, 3, 2), (2, 4, 3), (3, 5, 4), (2, 8, 8), (5, 7, 3)] {
                 let tight = Grid::new(5, 7, bands, nbpp, imode, EdgeRule::Tight, nppbh, nppbv);
                 let full = Grid { edges: EdgeRule::Full, ..tight };
-                let size = tight.sizes().expect("an accepted grid").block_bytes;
+                let size = tight.sizes(&Widths::STANDARD).expect("an accepted grid").block_bytes;
                 let mut image = exact(&[&with_ones_beside(&expected_image(&tight), &tight)[..], &[0xAA; 3]].concat());
                 let mut scratch = exact(&vec![0xAA; size + 2]);
-                let marks = exact(&vec![0x5A; tight.sizes().expect("an accepted grid").mark_words]);
-                assert_eq!(relay(&mut image, &marks, &tight, &mut scratch), Ok(full));
+                let marks = exact(&vec![0x5A; tight.sizes(&Widths::STANDARD).expect("an accepted grid").mark_words]);
+                assert_eq!(relay(&mut image, &marks, &tight, &Widths::STANDARD, &mut scratch), Ok(full));
                 let length = image.len() - 3;
                 assert_eq!(image[..length], expected_image(&full), "{tight:?}");
                 assert_eq!((&image[length..], &scratch[size..]), (&[0xAA; 3][..], &[0xAA; 2][..]));
@@ -225,12 +230,12 @@ fn at_byte_multiples_a_relay_clears_the_scratch_alone() {
     for imode in InterleaveMode::ALL {
         for nbpp in [8, 16, 24, 64] {
             let tight = Grid::new(5, 7, 2, nbpp, imode, EdgeRule::Tight, 4, 3);
-            let sizes = tight.sizes().expect("an accepted grid");
+            let sizes = tight.sizes(&Widths::STANDARD).expect("an accepted grid");
             let before: Vec<u8> = (0..sizes.image_bytes).map(|i| i as u8).collect();
             let (mut image, mut scratch) = (exact(&before), exact(&vec![0xAA; sizes.block_bytes]));
             let marks = exact(&vec![0; sizes.mark_words]);
             let full = Grid { edges: EdgeRule::Full, ..tight };
-            assert_eq!(relay(&mut image, &marks, &tight, &mut scratch), Ok(full));
+            assert_eq!(relay(&mut image, &marks, &tight, &Widths::STANDARD, &mut scratch), Ok(full));
             assert_eq!((&*image, &*scratch), (&before[..], &vec![0; sizes.block_bytes][..]));
         }
     }
@@ -240,7 +245,7 @@ fn at_byte_multiples_a_relay_clears_the_scratch_alone() {
 fn a_relay_is_refused_in_order() {
     let tight = Grid::new(5, 7, 2, 12, InterleaveMode::S, EdgeRule::Tight, 4, 3);
     let full = Grid { edges: EdgeRule::Full, ..tight };
-    let sizes = tight.sizes().expect("an accepted grid");
+    let sizes = tight.sizes(&Widths::STANDARD).expect("an accepted grid");
     let (whole, words, room) = (sizes.image_bytes, sizes.mark_words, sizes.block_bytes);
     let wrong = Grid { nbpp: 17, ..full };
     for (grid, image, marks, scratch, number) in [
@@ -252,7 +257,7 @@ fn a_relay_is_refused_in_order() {
         (tight, whole, words, 0, 9),
     ] {
         let (mut image, mut scratch) = (exact(&vec![0xA5; image]), exact(&vec![0xA5; scratch]));
-        let answer = relay(&mut image, &exact(&vec![0; marks]), &grid, &mut scratch);
+        let answer = relay(&mut image, &exact(&vec![0; marks]), &grid, &Widths::STANDARD, &mut scratch);
         assert_eq!(answer.map_err(gezdunar::Refusal::number), Err(number));
         assert!(image.iter().chain(scratch.iter()).all(|&byte| byte == 0xA5));
     }

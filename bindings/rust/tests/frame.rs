@@ -3,11 +3,13 @@
 mod common;
 
 use common::{block_samples, blocks, exact, largest, modes_and_rules, refused_grids, samples, shape, small, WIDTHS};
-use gezdunar::{decode_block_vec, read_window_vec, Bands, EdgeRule, Frame, Grid, InterleaveMode, Refusal, Window};
+use gezdunar::{
+    decode_block_vec, read_window_vec, Bands, EdgeRule, Frame, Grid, InterleaveMode, Refusal, Widths, Window,
+};
 
 /// Writes the plain picture, the last block first and each block twice.
 fn written(grid: Grid) -> Frame {
-    let mut frame = Frame::new(grid).expect("an accepted grid");
+    let mut frame = Frame::new(grid, Widths::STANDARD).expect("an accepted grid");
     let bands: Vec<u32> = (0..grid.bands).collect();
     for (count, (row, column)) in blocks(&grid).into_iter().rev().enumerate() {
         assert_eq!(frame.progress(), Ok(count));
@@ -24,13 +26,14 @@ fn read_again(frame: &Frame, list: &[u32]) {
     let (grid, image, lent) = (frame.grid(), frame.image(), exact(list));
     let bands = Bands::Listed(&lent);
     for (row, column) in blocks(grid) {
-        let (shape, read) = decode_block_vec(image, grid, row, column, 0, bands).expect("an accepted read");
+        let (shape, read) =
+            decode_block_vec(image, grid, &Widths::STANDARD, row, column, 0, bands).expect("an accepted read");
         assert_eq!(shape, common::shape(list.len(), grid.actual_rows(row), grid.actual_columns(column)));
         assert_eq!(read, *block_samples(grid, list, row, column));
     }
     for (row, column, rows, columns) in [(0, 0, 5, 7), (1, 2, 3, 4), (4, 6, 1, 1), (2, 3, 2, 3), (0, 0, 1, 7)] {
         let window = Window { row, column, rows, columns };
-        let (shape, read) = read_window_vec(image, grid, window, bands).expect("an accepted window");
+        let (shape, read) = read_window_vec(image, grid, &Widths::STANDARD, window, bands).expect("an accepted window");
         assert_eq!(shape, common::shape(list.len(), rows as usize, columns as usize));
         assert_eq!(read, *samples(grid, list, row as usize, column as usize, rows as usize, columns as usize));
     }
@@ -73,7 +76,7 @@ fn pictures_come_back_at_other_block_sides() {
 #[test]
 fn a_new_frame_is_empty() {
     for imode in InterleaveMode::ALL {
-        let frame = Frame::new(small(imode)).expect("an accepted grid");
+        let frame = Frame::new(small(imode), Widths::STANDARD).expect("an accepted grid");
         assert_eq!((frame.grid(), frame.image(), frame.marks()), (&small(imode), &[0; 64][..], &[0][..]));
         assert_eq!(frame.progress(), Ok(0));
         assert_eq!(frame.finalize(), Err(Refusal::UnmarkedBlock { row: 0, column: 0 }));
@@ -84,7 +87,7 @@ fn a_new_frame_is_empty() {
 #[test]
 fn a_grid_that_is_refused_gives_no_frame() {
     for (grid, number) in refused_grids() {
-        assert_eq!(Frame::new(grid).map_err(Refusal::number), Err(number));
+        assert_eq!(Frame::new(grid, Widths::STANDARD).map_err(Refusal::number), Err(number));
     }
 }
 
@@ -118,7 +121,7 @@ fn a_sample_that_does_not_fit_leaves_the_frame_as_it_was() {
 
 #[test]
 fn a_skipped_block_keeps_its_bytes() {
-    let mut frame = Frame::new(small(InterleaveMode::B)).expect("an accepted grid");
+    let mut frame = Frame::new(small(InterleaveMode::B), Widths::STANDARD).expect("an accepted grid");
     frame.encode_block(0, 1, shape(2, 2, 1), &exact(&[1, 2, 3, 4])).expect("an accepted block");
     let image = frame.image().to_vec();
     for (row, column) in blocks(&small(InterleaveMode::B)) {
@@ -148,8 +151,10 @@ fn a_frame_is_relaid_while_it_is_written() {
         for nbpp in WIDTHS {
             let tight = Grid::new(5, 7, 3, nbpp, imode, EdgeRule::Tight, 3, 2);
             let full = Grid { edges: EdgeRule::Full, ..tight };
-            let (mut frame, mut from_the_start) =
-                (Frame::new(tight).expect("accepted"), Frame::new(full).expect("accepted"));
+            let (mut frame, mut from_the_start) = (
+                Frame::new(tight, Widths::STANDARD).expect("accepted"),
+                Frame::new(full, Widths::STANDARD).expect("accepted"),
+            );
             some_blocks(&mut frame, 0, 4);
             assert_eq!(frame.relay(), Ok(()));
             some_blocks(&mut frame, 4, 9);

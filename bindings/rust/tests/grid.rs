@@ -3,7 +3,7 @@
 mod common;
 
 use common::{modes_and_rules, refused_grids, small, WIDTHS};
-use gezdunar::{EdgeRule, Grid, InterleaveMode, Refusal, Sizes};
+use gezdunar::{EdgeRule, Grid, InterleaveMode, Refusal, Sizes, Widths};
 
 /// One sample of one bit, in one block.
 const ONE: Grid = Grid {
@@ -20,7 +20,7 @@ const ONE: Grid = Grid {
 };
 
 fn number(grid: Grid) -> u32 {
-    grid.check().map_or_else(Refusal::number, |()| 0)
+    grid.check(&Widths::STANDARD).map_or_else(Refusal::number, |()| 0)
 }
 
 #[test]
@@ -103,13 +103,16 @@ fn question_3() {
 fn question_4() {
     // One block of 34,359,738,345 bits, and one of 34,359,738,360.
     let largest = Grid::new(286_515, 119_923, 1, 1, InterleaveMode::B, EdgeRule::Full, 119_923, 286_515);
-    assert_eq!(largest.sizes().map(|sizes| (sizes.blocks, sizes.image_bytes)), Ok((1, 4_294_967_294)));
+    assert_eq!(largest.sizes(&Widths::STANDARD).map(|sizes| (sizes.blocks, sizes.image_bytes)), Ok((1, 4_294_967_294)));
     assert_eq!(number(Grid::new(65_535, 524_296, 1, 1, InterleaveMode::B, EdgeRule::Full, 524_296, 65_535)), 4);
     let bands = Grid::new(1_143, 3_253, 9_241, 1, InterleaveMode::B, EdgeRule::Full, 3_253, 1_143);
-    assert_eq!(bands.sizes().map(|sizes| (sizes.band_bytes, sizes.image_bytes)), Ok((464_773, 4_294_967_293)));
+    assert_eq!(
+        bands.sizes(&Widths::STANDARD).map(|sizes| (sizes.band_bytes, sizes.image_bytes)),
+        Ok((464_773, 4_294_967_293))
+    );
     // 4,294,967,295 bytes: 65,535 bands of 65,537 bytes, and 15 by 4,369 blocks of 65,537 bands of one byte.
     let bands = Grid::new(191, 2_745, 65_535, 1, InterleaveMode::B, EdgeRule::Full, 2_745, 191);
-    let fewer = Grid { bands: 65_534, ..bands }.sizes();
+    let fewer = Grid { bands: 65_534, ..bands }.sizes(&Widths::STANDARD);
     assert_eq!((number(bands), fewer.map(|sizes| sizes.image_bytes)), (4, Ok(65_537 * 65_534)));
     assert_eq!(number(Grid::new(15, 4_369, 65_537, 8, InterleaveMode::S, EdgeRule::Full, 1, 1)), 4);
     assert_eq!(number(Grid::new(15, 4_369, 65_536, 8, InterleaveMode::S, EdgeRule::Full, 1, 1)), 0);
@@ -134,7 +137,7 @@ fn question_4_beyond_64_bits() {
         4
     );
     let square = Grid::new(65_536, 65_536, 1, 1, InterleaveMode::P, EdgeRule::Full, 65_536, 65_536);
-    assert_eq!(square.sizes().map(|sizes| sizes.image_bytes), Ok(536_870_912));
+    assert_eq!(square.sizes(&Widths::STANDARD).map(|sizes| sizes.image_bytes), Ok(536_870_912));
 }
 
 #[test]
@@ -150,8 +153,8 @@ fn check_and_sizes_are_refused_alike() {
     for (grid, number) in refused_grids() {
         for edges in EdgeRule::ALL {
             let grid = Grid { edges, ..grid };
-            assert_eq!(grid.check().map_err(Refusal::number), Err(number));
-            assert_eq!(grid.sizes().map_err(Refusal::number), Err(number));
+            assert_eq!(grid.check(&Widths::STANDARD).map_err(Refusal::number), Err(number));
+            assert_eq!(grid.sizes(&Widths::STANDARD).map_err(Refusal::number), Err(number));
         }
     }
 }
@@ -161,7 +164,7 @@ fn sizes_of_the_small_picture() {
     for imode in InterleaveMode::ALL {
         let sizes =
             Sizes { sample_bytes: 1, band_bytes: 8, block_bytes: 16, image_bytes: 64, blocks: 4, mark_words: 1 };
-        assert_eq!(small(imode).sizes(), Ok(sizes));
+        assert_eq!(small(imode).sizes(&Widths::STANDARD), Ok(sizes));
     }
 }
 
@@ -178,7 +181,7 @@ fn sizes_at_every_width() {
             mark_words: 1,
         };
         for (imode, edges) in modes_and_rules() {
-            assert_eq!(Grid::new(5, 7, 3, nbpp, imode, edges, 3, 2).sizes(), Ok(sizes));
+            assert_eq!(Grid::new(5, 7, 3, nbpp, imode, edges, 3, 2).sizes(&Widths::STANDARD), Ok(sizes));
         }
     }
 }
@@ -186,7 +189,7 @@ fn sizes_at_every_width() {
 #[test]
 fn words_for_the_marks() {
     for (ncols, words) in [(1, 1), (63, 1), (64, 1), (65, 2), (128, 2), (129, 3), (9_999, 157)] {
-        let sizes = Grid::new(1, ncols, 1, 8, InterleaveMode::B, EdgeRule::Full, 1, 1).sizes();
+        let sizes = Grid::new(1, ncols, 1, 8, InterleaveMode::B, EdgeRule::Full, 1, 1).sizes(&Widths::STANDARD);
         assert_eq!(sizes.map(|sizes| (sizes.blocks, sizes.mark_words)), Ok((ncols as usize, words)));
     }
 }

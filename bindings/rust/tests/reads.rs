@@ -5,15 +5,17 @@ mod common;
 use common::{
     block_samples, blocks, counting, exact, expected::block_end, modes_and_rules, refused_grids, shape, small,
 };
-use gezdunar::{decode_block, decode_block_vec, whole_block, Bands, Frame, Grid, InterleaveMode, Refusal, Shape};
+use gezdunar::{
+    decode_block, decode_block_vec, whole_block, Bands, Frame, Grid, InterleaveMode, Refusal, Shape, Widths,
+};
 
 /// Reads block (1,1) of document 01's picture from an image of this length, into an output of exact size.
 fn corner(imode: InterleaveMode, length: usize, bands: Bands) -> Result<(Shape, Vec<u8>), u32> {
     let image = counting(length);
     let grid = small(imode);
     let mut out = exact(&vec![0xAA; bands.count(2)]);
-    let answer = decode_block(&image, &grid, 1, 1, 0, bands, &mut out).map_err(Refusal::number);
-    let vector = decode_block_vec(&image, &grid, 1, 1, 0, bands).map_err(Refusal::number);
+    let answer = decode_block(&image, &grid, &Widths::STANDARD, 1, 1, 0, bands, &mut out).map_err(Refusal::number);
+    let vector = decode_block_vec(&image, &grid, &Widths::STANDARD, 1, 1, 0, bands).map_err(Refusal::number);
     assert_eq!(vector, answer.map(|shape| (shape, out.to_vec())));
     if answer.is_err() {
         assert!(out.iter().all(|&byte| byte == 0xAA));
@@ -37,7 +39,7 @@ fn figures_e_and_f() {
 #[test]
 fn figure_g() {
     let grid = small(InterleaveMode::P);
-    let answer = decode_block_vec(&counting(64), &grid, 2, 0, 0, Bands::All);
+    let answer = decode_block_vec(&counting(64), &grid, &Widths::STANDARD, 2, 0, 0, Bands::All);
     assert_eq!(answer, Err(Refusal::BlockOutsideGrid));
     assert_eq!(answer.map_err(Refusal::number), Err(6));
 }
@@ -55,7 +57,7 @@ fn figures_h_to_j() {
 fn refused(grid: &Grid, length: usize, block: (u32, u32), level: u32, bands: Bands) -> u32 {
     let image = counting(length);
     let mut out = exact(&[1, 2, 3]);
-    let answer = decode_block(&image, grid, block.0, block.1, level, bands, &mut out);
+    let answer = decode_block(&image, grid, &Widths::STANDARD, block.0, block.1, level, bands, &mut out);
     assert_eq!(*out, [1, 2, 3]);
     answer.map_or_else(Refusal::number, |_| 0)
 }
@@ -64,7 +66,10 @@ fn refused(grid: &Grid, length: usize, block: (u32, u32), level: u32, bands: Ban
 fn decode_block_refuses() {
     for (grid, number) in refused_grids() {
         assert_eq!(refused(&grid, 64, (0, 0), 0, Bands::All), number);
-        assert_eq!(decode_block_vec(&counting(64), &grid, 0, 0, 0, Bands::All).map_err(Refusal::number), Err(number));
+        assert_eq!(
+            decode_block_vec(&counting(64), &grid, &Widths::STANDARD, 0, 0, 0, Bands::All).map_err(Refusal::number),
+            Err(number)
+        );
     }
     let grid = small(InterleaveMode::P);
     assert_eq!(refused(&grid, 64, (0, 0), 1, Bands::All), 5);
@@ -92,13 +97,14 @@ fn decode_block_asks_in_order() {
 #[test]
 fn a_longer_output_keeps_its_rest() {
     let mut out = exact(&[0xAA; 5]);
-    let answer = decode_block(&counting(64), &small(InterleaveMode::P), 1, 1, 0, Bands::All, &mut out);
+    let answer =
+        decode_block(&counting(64), &small(InterleaveMode::P), &Widths::STANDARD, 1, 1, 0, Bands::All, &mut out);
     assert_eq!((answer, &out[..]), (Ok(shape(2, 1, 1)), &[48, 49, 0xAA, 0xAA, 0xAA][..]));
 }
 
 /// A frame with the plain picture in it.
 fn written(grid: Grid) -> Frame {
-    let mut frame = Frame::new(grid).expect("an accepted grid");
+    let mut frame = Frame::new(grid, Widths::STANDARD).expect("an accepted grid");
     let bands: Vec<u32> = (0..grid.bands).collect();
     for (row, column) in blocks(&grid) {
         let data = block_samples(&grid, &bands, row, column);
@@ -126,7 +132,7 @@ fn short_images(frame: &Frame, (row, column): (u32, u32)) {
     let end = block_end(grid, row, column);
     for length in 0..=frame.image().len() {
         let image = exact(&frame.image()[..length]);
-        let answer = decode_block_vec(&image, grid, row, column, 0, Bands::Listed(&list));
+        let answer = decode_block_vec(&image, grid, &Widths::STANDARD, row, column, 0, Bands::Listed(&list));
         if length < end {
             assert_eq!(answer, Err(Refusal::ImageEnds), "{length} of {end} bytes, {grid:?}");
         } else {
@@ -141,7 +147,7 @@ fn whole_block_is_a_part_of_the_image() {
     let image = counting(64);
     for imode in [InterleaveMode::B, InterleaveMode::P, InterleaveMode::R] {
         for (index, (row, column)) in blocks(&small(imode)).into_iter().enumerate() {
-            let part = whole_block(&image, &small(imode), row, column).expect("a whole image");
+            let part = whole_block(&image, &small(imode), &Widths::STANDARD, row, column).expect("a whole image");
             assert_eq!(part, &image[index * 16..index * 16 + 16]);
             assert_eq!(part.as_ptr(), image[index * 16..].as_ptr());
         }
@@ -151,28 +157,28 @@ fn whole_block_is_a_part_of_the_image() {
 #[test]
 fn whole_block_reaches_its_nominal_end() {
     let grid = small(InterleaveMode::P);
-    assert_eq!(whole_block(&counting(48), &grid, 1, 0), Ok(&counting(48)[32..]));
-    assert_eq!(whole_block(&counting(47), &grid, 1, 0), Err(Refusal::ImageEnds));
+    assert_eq!(whole_block(&counting(48), &grid, &Widths::STANDARD, 1, 0), Ok(&counting(48)[32..]));
+    assert_eq!(whole_block(&counting(47), &grid, &Widths::STANDARD, 1, 0), Err(Refusal::ImageEnds));
     // The samples of block (1,1) end at 50.
-    assert_eq!(whole_block(&counting(63), &grid, 1, 1), Err(Refusal::ImageEnds));
+    assert_eq!(whole_block(&counting(63), &grid, &Widths::STANDARD, 1, 1), Err(Refusal::ImageEnds));
 }
 
 #[test]
 fn whole_block_is_empty_in_s() {
     let grid = small(InterleaveMode::S);
-    assert_eq!(whole_block(&counting(64), &grid, 1, 1), Ok(&[][..]));
-    assert_eq!(whole_block(&exact(&[]), &grid, 1, 1), Ok(&[][..]));
-    assert_eq!(whole_block(&exact(&[]), &grid, 2, 1), Err(Refusal::BlockOutsideGrid));
+    assert_eq!(whole_block(&counting(64), &grid, &Widths::STANDARD, 1, 1), Ok(&[][..]));
+    assert_eq!(whole_block(&exact(&[]), &grid, &Widths::STANDARD, 1, 1), Ok(&[][..]));
+    assert_eq!(whole_block(&exact(&[]), &grid, &Widths::STANDARD, 2, 1), Err(Refusal::BlockOutsideGrid));
 }
 
 #[test]
 fn whole_block_refuses() {
     for (grid, number) in refused_grids() {
-        assert_eq!(whole_block(&counting(64), &grid, 0, 0).map_err(Refusal::number), Err(number));
+        assert_eq!(whole_block(&counting(64), &grid, &Widths::STANDARD, 0, 0).map_err(Refusal::number), Err(number));
     }
     let grid = small(InterleaveMode::B);
     for (row, column) in [(2, 0), (0, 2), (u32::MAX, u32::MAX)] {
-        assert_eq!(whole_block(&counting(64), &grid, row, column).map_err(Refusal::number), Err(6));
+        assert_eq!(whole_block(&counting(64), &grid, &Widths::STANDARD, row, column).map_err(Refusal::number), Err(6));
     }
-    assert_eq!(whole_block(&exact(&[]), &grid, 0, 0).map_err(Refusal::number), Err(7));
+    assert_eq!(whole_block(&exact(&[]), &grid, &Widths::STANDARD, 0, 0).map_err(Refusal::number), Err(7));
 }

@@ -1,6 +1,6 @@
 //! Refusals, their numbers and their words.
 
-use gezdunar::{EdgeRule, Grid, InterleaveMode, Refusal};
+use gezdunar::{EdgeRule, Grid, InterleaveMode, Refusal, Widths};
 use std::collections::HashSet;
 use std::error::Error;
 
@@ -77,7 +77,7 @@ fn other_numbers_have_words_too() {
 #[test]
 fn a_refusal_is_an_error_that_can_be_matched() {
     fn check() -> Result<(), Box<dyn Error>> {
-        Grid::new(3, 5, 2, 17, InterleaveMode::B, EdgeRule::Full, 4, 2).check()?;
+        Grid::new(3, 5, 2, 17, InterleaveMode::B, EdgeRule::Full, 4, 2).check(&Widths::STANDARD)?;
         Ok(())
     }
     let error = check().expect_err("17 is no width");

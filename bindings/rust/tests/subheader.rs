@@ -5,6 +5,7 @@ mod common;
 use common::{exact, refused_grids, small, subheader, WIDTHS};
 use gezdunar::{
     EdgeRule, Grid, ImageCompression, ImageSubheader, InterleaveMode, PixelJustification, PixelValueType, Refusal,
+    Widths,
 };
 use std::str::FromStr;
 
@@ -28,7 +29,8 @@ fn fields() -> ImageSubheader {
 /// Reads parts in buffers of exact size. Under the other rule the answer is the same but for the rule.
 fn read(first: &[u8], second: &[u8], third: &[u8], bands: u32) -> Result<ImageSubheader, u32> {
     let [first, second, third] = [first, second, third].map(exact);
-    let under = |edges| ImageSubheader::read(&first, &second, &third, bands, edges).map_err(Refusal::number);
+    let under =
+        |edges| ImageSubheader::read(&first, &second, &third, bands, edges, &Widths::STANDARD).map_err(Refusal::number);
     let full = under(EdgeRule::Full);
     assert_eq!(under(EdgeRule::Tight), full.map(|full| with_rule(&full, EdgeRule::Tight)));
     full
@@ -56,9 +58,10 @@ fn sides(nrows: u32, ncols: u32, nbpr: u32, nbpc: u32, nppbh: &str, nppbv: &str)
 #[test]
 fn the_rule_is_given_and_not_written() {
     for edges in EdgeRule::ALL {
-        let subheader = ImageSubheader::read(FIRST, SECOND, THIRD, 5, edges).expect("the parts are accepted");
+        let subheader =
+            ImageSubheader::read(FIRST, SECOND, THIRD, 5, edges, &Widths::STANDARD).expect("the parts are accepted");
         assert_eq!(subheader, with_rule(&fields(), edges));
-        let (first, second, third) = subheader.to_parts().expect("the fields are accepted");
+        let (first, second, third) = subheader.to_parts(&Widths::STANDARD).expect("the fields are accepted");
         assert_eq!((&first[..], &second[..], &third[..]), (FIRST, SECOND, THIRD));
     }
 }
@@ -66,7 +69,7 @@ fn the_rule_is_given_and_not_written() {
 /// The number of a write into outputs of these lengths, which must be kept where it is refused.
 fn written(subheader: &ImageSubheader, lengths: [usize; 3]) -> u32 {
     let [mut first, mut second, mut third] = lengths.map(|length| exact(&vec![0xAA; length]));
-    match subheader.write(&mut first, &mut second, &mut third) {
+    match subheader.write(&Widths::STANDARD, &mut first, &mut second, &mut third) {
         Ok(()) => 0,
         Err(refusal) => {
             assert!([first, second, third].iter().flatten().all(|&byte| byte == 0xAA), "{refusal}, but it wrote");
@@ -86,17 +89,18 @@ fn the_fields_are_read() {
 
 #[test]
 fn the_fields_are_written() {
-    let (first, second, third) = fields().to_parts().expect("the fields are accepted");
+    let (first, second, third) = fields().to_parts(&Widths::STANDARD).expect("the fields are accepted");
     assert_eq!((&first[..], &second[..], &third[..]), (FIRST, SECOND, THIRD));
     let grid = Grid::new(1, 1, 99_999, 1, InterleaveMode::S, EdgeRule::Full, 1, 1);
-    let (first, second, third) = ImageSubheader { abpp: 0, ..subheader(grid) }.to_parts().expect("it is accepted");
+    let (first, second, third) =
+        ImageSubheader { abpp: 0, ..subheader(grid) }.to_parts(&Widths::STANDARD).expect("it is accepted");
     assert_eq!((&first, &second), (b"0000000100000001INTMULTI   MS      00R", b"NC"));
     assert_eq!(&third, b"S000100010001000101");
 }
 
 /// What is written is read again as the same fields.
 fn comes_back(subheader: &ImageSubheader) {
-    let (first, second, third) = subheader.to_parts().expect("the fields are accepted");
+    let (first, second, third) = subheader.to_parts(&Widths::STANDARD).expect("the fields are accepted");
     assert_eq!(read(&first, &second, &third, subheader.grid.bands), Ok(*subheader));
 }
 
@@ -246,15 +250,15 @@ fn a_side_above_8_192_may_stand_as_it_is() {
 fn a_side_above_8_192_is_written_as_zeros() {
     for (side, field) in [(100, "0100"), (8_191, "8191"), (8_192, "8192"), (8_193, "0000"), (9_000, "0000")] {
         let wide = Grid::new(2, side, 1, 8, InterleaveMode::B, EdgeRule::Full, side, 2);
-        let (_, _, third) = subheader(wide).to_parts().expect("the grid is accepted");
+        let (_, _, third) = subheader(wide).to_parts(&Widths::STANDARD).expect("the grid is accepted");
         assert_eq!(third, format!("B00010001{field}000208").as_bytes());
         let tall = Grid::new(side, 2, 1, 8, InterleaveMode::B, EdgeRule::Full, 2, side);
-        let (_, _, third) = subheader(tall).to_parts().expect("the grid is accepted");
+        let (_, _, third) = subheader(tall).to_parts(&Widths::STANDARD).expect("the grid is accepted");
         assert_eq!(third, format!("B000100010002{field}08").as_bytes());
     }
     // A block that is wider than the picture, and not above 8,192.
     let (first, _, third) = subheader(Grid::new(2, 3, 1, 8, InterleaveMode::B, EdgeRule::Full, 8_192, 8_192))
-        .to_parts()
+        .to_parts(&Widths::STANDARD)
         .expect("it is accepted");
     assert_eq!((&first[..16], &third), (&b"0000000200000003"[..], b"B000100018192819208"));
 }
@@ -263,7 +267,7 @@ fn a_side_above_8_192_is_written_as_zeros() {
 fn what_stands_as_zeros_may_be_written_otherwise() {
     let first = b"0000000700000005INTMONO    VIS     08R";
     let subheader = read(first, b"NC", b"B000100010000000008", 1).expect("the parts are accepted");
-    let (again, _, third) = subheader.to_parts().expect("the fields are accepted");
+    let (again, _, third) = subheader.to_parts(&Widths::STANDARD).expect("the fields are accepted");
     assert_eq!((&again, &third), (first, b"B000100010005000708"));
 }
 
@@ -272,7 +276,7 @@ fn the_writer_refuses() {
     let exactly = [38, 2, 19];
     for (grid, number) in refused_grids() {
         assert_eq!(written(&subheader(grid), exactly), number);
-        assert_eq!(subheader(grid).to_parts().map_err(Refusal::number), Err(number));
+        assert_eq!(subheader(grid).to_parts(&Widths::STANDARD).map_err(Refusal::number), Err(number));
     }
     for abpp in [100, 255, 256, 1_000, u32::MAX] {
         assert_eq!(written(&ImageSubheader { abpp, ..fields() }, exactly), 24);
@@ -299,7 +303,7 @@ fn the_writer_asks_in_order() {
 #[test]
 fn longer_outputs_keep_their_rest() {
     let [mut first, mut second, mut third] = [40, 7, 20].map(|length| exact(&vec![0xAA; length]));
-    assert_eq!(fields().write(&mut first, &mut second, &mut third), Ok(()));
+    assert_eq!(fields().write(&Widths::STANDARD, &mut first, &mut second, &mut third), Ok(()));
     assert_eq!(*first, [FIRST, &[0xAA; 2]].concat());
     assert_eq!(*second, [SECOND, &[0xAA; 5]].concat());
     assert_eq!(*third, [THIRD, &[0xAA; 1]].concat());

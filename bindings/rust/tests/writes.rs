@@ -5,14 +5,14 @@ mod common;
 use common::{block_samples, blocks, exact, largest, modes_and_rules, refused_grids, shape, small, WIDTHS};
 use gezdunar::{
     decode_block_vec, encode_block, finalize, progress, read_window_vec, skip_block, start, Bands, EdgeRule, Grid,
-    InterleaveMode, Refusal, Shape, Window,
+    InterleaveMode, Refusal, Shape, Widths, Window,
 };
 
 /// A started image and its marks, of exact size.
 fn started(grid: &Grid) -> (Box<[u8]>, Box<[u64]>) {
-    let sizes = grid.sizes().expect("an accepted grid");
+    let sizes = grid.sizes(&Widths::STANDARD).expect("an accepted grid");
     let (mut image, mut marks) = (exact(&vec![0xFF; sizes.image_bytes]), exact(&vec![u64::MAX; sizes.mark_words]));
-    assert_eq!(start(&mut image, &mut marks, grid), Ok(()));
+    assert_eq!(start(&mut image, &mut marks, grid, &Widths::STANDARD), Ok(()));
     (image, marks)
 }
 
@@ -23,7 +23,7 @@ fn start_clears_and_keeps_the_rest() {
         assert!(image.iter().all(|&byte| byte == 0));
         assert_eq!(*marks, [0]);
         let (mut image, mut marks) = (exact(&[0xFF; 66]), exact(&[u64::MAX; 2]));
-        assert_eq!(start(&mut image, &mut marks, &small(imode)), Ok(()));
+        assert_eq!(start(&mut image, &mut marks, &small(imode), &Widths::STANDARD), Ok(()));
         assert_eq!((&image[..64], &image[64..], &marks[..]), (&[0; 64][..], &[0xFF; 2][..], &[0, u64::MAX][..]));
     }
 }
@@ -35,7 +35,7 @@ fn start_refuses() {
     let cases = refused_grids().into_iter().map(|(grid, number)| (grid, 64, 1, number)).chain(more);
     for (grid, bytes, words, number) in cases {
         let (mut image, mut marks) = (exact(&vec![7; bytes]), exact(&vec![7; words]));
-        assert_eq!(start(&mut image, &mut marks, &grid).map_err(Refusal::number), Err(number));
+        assert_eq!(start(&mut image, &mut marks, &grid, &Widths::STANDARD).map_err(Refusal::number), Err(number));
         assert!(image.iter().all(|&byte| byte == 7) && marks.iter().all(|&word| word == 7));
     }
 }
@@ -45,7 +45,7 @@ fn image_of(grid: &Grid, block: (u32, u32), data: &[u8]) -> Box<[u8]> {
     let (mut image, mut marks) = started(grid);
     let data = exact(data);
     let shape = grid.block_shape(block.0, block.1);
-    assert_eq!(encode_block(&mut image, &mut marks, grid, block.0, block.1, shape, &data), Ok(()));
+    assert_eq!(encode_block(&mut image, &mut marks, grid, &Widths::STANDARD, block.0, block.1, shape, &data), Ok(()));
     assert_eq!(*marks, [1 << (block.0 * grid.nbpr + block.1)]);
     image
 }
@@ -86,10 +86,13 @@ fn figure_m() {
             let grid = Grid::new(2, 3, 1, 4, imode, edges, 2, 2);
             let image = image_of(&grid, (0, 1), &[5, 9]);
             assert_eq!(*image, bytes);
-            let read = decode_block_vec(&image, &grid, 0, 1, 0, Bands::All);
+            let read = decode_block_vec(&image, &grid, &Widths::STANDARD, 0, 1, 0, Bands::All);
             assert_eq!(read, Ok((shape(1, 2, 1), vec![5, 9])));
             let edge = Window { row: 0, column: 2, rows: 2, columns: 1 };
-            assert_eq!(read_window_vec(&image, &grid, edge, Bands::All), Ok((shape(1, 2, 1), vec![5, 9])));
+            assert_eq!(
+                read_window_vec(&image, &grid, &Widths::STANDARD, edge, Bands::All),
+                Ok((shape(1, 2, 1), vec![5, 9]))
+            );
         }
     }
 }
@@ -99,7 +102,10 @@ fn a_write_at_a_packed_width_clears_its_runs() {
     for (edges, bytes) in [(EdgeRule::Tight, [0x59, 0x00]), (EdgeRule::Full, [0x50, 0x90])] {
         let grid = Grid::new(2, 3, 1, 4, InterleaveMode::B, edges, 2, 2);
         let (mut image, mut marks) = (exact(&[0xFF; 4]), exact(&[0; 1]));
-        assert_eq!(encode_block(&mut image, &mut marks, &grid, 0, 1, shape(1, 2, 1), &exact(&[5, 9])), Ok(()));
+        assert_eq!(
+            encode_block(&mut image, &mut marks, &grid, &Widths::STANDARD, 0, 1, shape(1, 2, 1), &exact(&[5, 9])),
+            Ok(())
+        );
         assert_eq!((&image[..2], &image[2..]), (&[0xFF; 2][..], &bytes[..]));
     }
 }
@@ -109,7 +115,10 @@ fn a_write_at_bytes_touches_only_its_samples() {
     for edges in EdgeRule::ALL {
         let grid = Grid::new(2, 3, 1, 8, InterleaveMode::B, edges, 2, 2);
         let (mut image, mut marks) = (exact(&[0xFF; 8]), exact(&[0; 1]));
-        assert_eq!(encode_block(&mut image, &mut marks, &grid, 0, 1, shape(1, 2, 1), &exact(&[5, 9])), Ok(()));
+        assert_eq!(
+            encode_block(&mut image, &mut marks, &grid, &Widths::STANDARD, 0, 1, shape(1, 2, 1), &exact(&[5, 9])),
+            Ok(())
+        );
         assert_eq!(*image, [0xFF, 0xFF, 0xFF, 0xFF, 5, 0xFF, 9, 0xFF]);
     }
 }
@@ -118,7 +127,10 @@ fn a_write_at_bytes_touches_only_its_samples() {
 fn a_write_keeps_the_rest_of_longer_buffers() {
     let grid = small(InterleaveMode::R);
     let (mut image, mut marks) = (exact(&[0xFF; 67]), exact(&[4, 77]));
-    assert_eq!(encode_block(&mut image, &mut marks, &grid, 1, 1, shape(2, 1, 1), &exact(&[1, 2])), Ok(()));
+    assert_eq!(
+        encode_block(&mut image, &mut marks, &grid, &Widths::STANDARD, 1, 1, shape(2, 1, 1), &exact(&[1, 2])),
+        Ok(())
+    );
     assert_eq!((image[48], image[52], &image[64..], &marks[..]), (1, 2, &[0xFF; 3][..], &[12, 77][..]));
 }
 
@@ -130,7 +142,7 @@ fn refused(grid: &Grid, sizes: (usize, usize), block: (u32, u32), shape: Shape, 
 /// The number of a write into buffers that must be kept.
 fn refused_data(grid: &Grid, sizes: (usize, usize), block: (u32, u32), shape: Shape, data: &[u8]) -> u32 {
     let (mut image, mut marks) = (exact(&vec![7; sizes.0]), exact(&vec![6; sizes.1]));
-    let answer = encode_block(&mut image, &mut marks, grid, block.0, block.1, shape, &exact(data));
+    let answer = encode_block(&mut image, &mut marks, grid, &Widths::STANDARD, block.0, block.1, shape, &exact(data));
     assert!(image.iter().all(|&byte| byte == 7) && marks.iter().all(|&word| word == 6));
     answer.map_or_else(Refusal::number, |()| 0)
 }
@@ -184,12 +196,22 @@ fn encode_block_asks_of_the_samples_last() {
 /// The number of a write into an image and marks with a pattern. A refused one must keep both; what an accepted one
 /// stored must be read as it was.
 fn stored(grid: &Grid, (row, column): (u32, u32), data: &[u8]) -> u32 {
-    let sizes = grid.sizes().expect("an accepted grid");
+    let sizes = grid.sizes(&Widths::STANDARD).expect("an accepted grid");
     let before = (exact(&vec![0x5A; sizes.image_bytes]), exact(&vec![0x5A00; sizes.mark_words]));
     let (mut image, mut marks) = before.clone();
-    match encode_block(&mut image, &mut marks, grid, row, column, grid.block_shape(row, column), &exact(data)) {
+    match encode_block(
+        &mut image,
+        &mut marks,
+        grid,
+        &Widths::STANDARD,
+        row,
+        column,
+        grid.block_shape(row, column),
+        &exact(data),
+    ) {
         Ok(()) => {
-            let (_, read) = decode_block_vec(&image, grid, row, column, 0, Bands::All).expect("an accepted read");
+            let (_, read) = decode_block_vec(&image, grid, &Widths::STANDARD, row, column, 0, Bands::All)
+                .expect("an accepted read");
             assert_eq!((&read[..], marks[0]), (data, 0x5A00 | 1 << (row * grid.nbpr + column)), "{grid:?}");
             0
         }
@@ -254,7 +276,7 @@ fn skip_block_marks_and_keeps() {
     let image = exact(&[9; 70]);
     let mut marks = exact(&[0, 0, 5]);
     for (column, expected) in [(0, [1, 0, 5]), (63, [1 | 1 << 63, 0, 5]), (64, [1 | 1 << 63, 1, 5])] {
-        assert_eq!(skip_block(&image, &mut marks, &grid, 0, column), Ok(()));
+        assert_eq!(skip_block(&image, &mut marks, &grid, &Widths::STANDARD, 0, column), Ok(()));
         assert_eq!(*marks, expected);
     }
 }
@@ -267,7 +289,10 @@ fn skip_block_refuses() {
     let cases = refused_grids().into_iter().map(|(grid, number)| (grid, 64, 1, (0, 0), number)).chain(more);
     for (grid, bytes, words, (row, column), number) in cases {
         let (image, mut marks) = (exact(&vec![7; bytes]), exact(&vec![6; words]));
-        assert_eq!(skip_block(&image, &mut marks, &grid, row, column).map_err(Refusal::number), Err(number));
+        assert_eq!(
+            skip_block(&image, &mut marks, &grid, &Widths::STANDARD, row, column).map_err(Refusal::number),
+            Err(number)
+        );
         assert!(marks.iter().all(|&word| word == 6));
     }
 }
@@ -276,16 +301,16 @@ fn skip_block_refuses() {
 fn progress_counts_the_marks_of_the_grid() {
     let grid = Grid::new(1, 70, 1, 8, InterleaveMode::S, EdgeRule::Full, 1, 1);
     for (marks, count) in [([0, 0], 0), ([u64::MAX, u64::MAX], 70), ([0b1011, 1 << 5], 4), ([0, 1 << 6], 0)] {
-        assert_eq!(progress(&exact(&marks), &grid), Ok(count));
+        assert_eq!(progress(&exact(&marks), &grid, &Widths::STANDARD), Ok(count));
     }
 }
 
 #[test]
 fn progress_refuses() {
     for (grid, number) in refused_grids() {
-        assert_eq!(progress(&exact(&[0]), &grid).map_err(Refusal::number), Err(number));
+        assert_eq!(progress(&exact(&[0]), &grid, &Widths::STANDARD).map_err(Refusal::number), Err(number));
     }
-    assert_eq!(progress(&exact(&[]), &small(InterleaveMode::B)).map_err(Refusal::number), Err(12));
+    assert_eq!(progress(&exact(&[]), &small(InterleaveMode::B), &Widths::STANDARD).map_err(Refusal::number), Err(12));
 }
 
 #[test]
@@ -294,23 +319,32 @@ fn finalize_names_the_first_unmarked_block() {
     let image = exact(&[0; 64]);
     for (index, (row, column)) in blocks(&grid).into_iter().enumerate() {
         let below = exact(&[(1 << index) - 1]);
-        assert_eq!(finalize(&image, &below, &grid), Err(Refusal::UnmarkedBlock { row, column }));
+        assert_eq!(finalize(&image, &below, &grid, &Widths::STANDARD), Err(Refusal::UnmarkedBlock { row, column }));
         let all_but_it = exact(&[!(1 << index)]);
-        assert_eq!(finalize(&image, &all_but_it, &grid), Err(Refusal::UnmarkedBlock { row, column }));
+        assert_eq!(
+            finalize(&image, &all_but_it, &grid, &Widths::STANDARD),
+            Err(Refusal::UnmarkedBlock { row, column })
+        );
     }
-    assert_eq!(finalize(&image, &exact(&[0b1111]), &grid), Ok(()));
+    assert_eq!(finalize(&image, &exact(&[0b1111]), &grid, &Widths::STANDARD), Ok(()));
     let wide = Grid::new(2, 70, 1, 8, InterleaveMode::P, EdgeRule::Full, 1, 1);
     let marks = exact(&[u64::MAX, u64::MAX, !(1 << 11)]);
-    assert_eq!(finalize(&exact(&[0; 140]), &marks, &wide), Err(Refusal::UnmarkedBlock { row: 1, column: 69 }));
+    assert_eq!(
+        finalize(&exact(&[0; 140]), &marks, &wide, &Widths::STANDARD),
+        Err(Refusal::UnmarkedBlock { row: 1, column: 69 })
+    );
 }
 
 #[test]
 fn finalize_refuses() {
     for (grid, number) in refused_grids() {
-        assert_eq!(finalize(&exact(&[0; 64]), &exact(&[0]), &grid).map_err(Refusal::number), Err(number));
+        assert_eq!(
+            finalize(&exact(&[0; 64]), &exact(&[0]), &grid, &Widths::STANDARD).map_err(Refusal::number),
+            Err(number)
+        );
     }
     let grid = small(InterleaveMode::B);
-    assert_eq!(finalize(&exact(&[0; 63]), &exact(&[]), &grid).map_err(Refusal::number), Err(11));
-    assert_eq!(finalize(&exact(&[0; 64]), &exact(&[]), &grid).map_err(Refusal::number), Err(12));
-    assert_eq!(finalize(&exact(&[0; 64]), &exact(&[0]), &grid).map_err(Refusal::number), Err(15));
+    assert_eq!(finalize(&exact(&[0; 63]), &exact(&[]), &grid, &Widths::STANDARD).map_err(Refusal::number), Err(11));
+    assert_eq!(finalize(&exact(&[0; 64]), &exact(&[]), &grid, &Widths::STANDARD).map_err(Refusal::number), Err(12));
+    assert_eq!(finalize(&exact(&[0; 64]), &exact(&[0]), &grid, &Widths::STANDARD).map_err(Refusal::number), Err(15));
 }

@@ -1,6 +1,6 @@
 //! A case is one call, or for a frame a list of calls, with everything that it is handed.
 
-use crate::{Edges, Grid, Lent, Mode, Subheader};
+use crate::{Edges, Grid, Lent, Mode, Subheader, Widths};
 
 #[derive(Clone, Debug, PartialEq)]
 pub enum Case {
@@ -83,7 +83,11 @@ pub enum Case {
     WriteSubheader {
         subheader: Subheader,
     },
-    /// One of the others, with these lent buffers.
+    /// A width table loaded.
+    Load {
+        bytes: Vec<u8>,
+    },
+    /// One of the others, with these lent buffers and this width table.
     Lent {
         case: Box<Case>,
         lent: Lent,
@@ -107,6 +111,11 @@ pub enum Call {
     /// With a scratch of so many bytes. Later calls are handed the grid that is then in force.
     Relay {
         scratch: u64,
+    },
+    /// One of the others, with a width table of its own.
+    Handed {
+        widths: Widths,
+        call: Box<Call>,
     },
 }
 
@@ -154,6 +163,7 @@ pub struct Pack {
 /// | reorderings | none | samples |
 /// | subheader read | PVTYPE, PJUST, IC, ABPP, the grid's fields | IREP, ICAT |
 /// | subheader write | none | the three parts |
+/// | widths loaded | none | the entries |
 ///
 /// In a frame the two values are the count for progress, row and column for a finish with 15, and for a re-lay whether
 /// the rule in force after it is full.
@@ -194,10 +204,11 @@ pub enum Kind {
     Select,
     ReadSubheader,
     WriteSubheader,
+    Load,
 }
 
 impl Kind {
-    pub const ALL: [Kind; 14] = [
+    pub const ALL: [Kind; 15] = [
         Kind::Read,
         Kind::Whole,
         Kind::Window,
@@ -212,6 +223,7 @@ impl Kind {
         Kind::Select,
         Kind::ReadSubheader,
         Kind::WriteSubheader,
+        Kind::Load,
     ];
 
     pub fn name(self) -> &'static str {
@@ -230,17 +242,18 @@ impl Kind {
             Kind::Select => "pixel to band sequential",
             Kind::ReadSubheader => "subheader read",
             Kind::WriteSubheader => "subheader write",
+            Kind::Load => "widths loaded",
         }
     }
 
     /// Has the original an answer?
     pub fn in_original(self) -> bool {
-        !matches!(self, Kind::ReadSubheader | Kind::WriteSubheader)
+        !matches!(self, Kind::ReadSubheader | Kind::WriteSubheader | Kind::Load)
     }
 
     /// Is the call about a picture in blocks?
     pub fn has_grid(self) -> bool {
-        !matches!(self, Kind::ToSequential | Kind::FromSequential | Kind::Select)
+        !matches!(self, Kind::ToSequential | Kind::FromSequential | Kind::Select | Kind::Load)
     }
 }
 
@@ -261,6 +274,7 @@ impl Case {
             Case::Select { .. } => Kind::Select,
             Case::ReadSubheader { .. } => Kind::ReadSubheader,
             Case::WriteSubheader { .. } => Kind::WriteSubheader,
+            Case::Load { .. } => Kind::Load,
             Case::Lent { case, .. } => case.kind(),
         }
     }
@@ -327,6 +341,15 @@ impl Call {
             Call::Progress => "progress",
             Call::Finish => "finish",
             Call::Relay { .. } => "re-lay",
+            Call::Handed { call, .. } => call.name(),
+        }
+    }
+
+    /// The call without its table, and the table that it is handed: its own or the frame's.
+    pub fn with_widths(&self, widths: &Widths) -> (&Call, Widths) {
+        match self {
+            Call::Handed { widths, call } => (call, *widths),
+            call => (call, *widths),
         }
     }
 }

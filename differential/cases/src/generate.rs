@@ -5,6 +5,7 @@ mod mask;
 mod outside;
 mod reorder;
 mod subheader;
+mod widths;
 
 use crate::model::layout;
 use crate::{Area, Case, Edges, Grid, Kind, Mode, Source, BLOCK_SIDE, WIDTHS};
@@ -57,6 +58,7 @@ fn compared(kind: Kind, from: &mut Source, size: &Size) -> Option<Case> {
         Kind::ToSequential => Some(reorder::sequential(from, size, true)),
         Kind::FromSequential => Some(reorder::sequential(from, size, false)),
         Kind::Select => Some(reorder::select(from, size)),
+        Kind::Load => Some(widths::load(from, size)),
         _ => {
             let grid = under_rule(grid(from, size), from, size);
             if layout::image_bytes(&grid) > u128::from(size.image) {

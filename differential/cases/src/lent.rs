@@ -1,14 +1,14 @@
 //! The buffers that a call is lent beside its input.
 
 use crate::model::{self, layout, mask, questions, subheader};
-use crate::{Answer, Case};
+use crate::{Answer, Case, Widths};
 
 /// What a lent buffer holds before the first call.
 const PATTERN: u8 = 0xa5;
 
 /// Lengths: of an output in bytes (in 32-bit words for the mask from marks), of a frame's image in
 /// bytes and of its marks in words, of the outputs for a subheader's parts in bytes. A frame may have
-/// no start: its first call then works on what the buffers held before.
+/// no start: its first call then works on what the buffers held before. The width table stands here too.
 #[derive(Clone, Copy, Debug, Default, PartialEq)]
 pub struct Lent {
     pub output: u64,
@@ -16,6 +16,7 @@ pub struct Lent {
     pub marks: u64,
     pub parts: [u64; 3],
     pub no_start: bool,
+    pub widths: Widths,
 }
 
 /// A buffer of so many bytes, as it is lent.

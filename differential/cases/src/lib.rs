@@ -17,6 +17,7 @@ mod run;
 mod shrink;
 mod source;
 mod subheader;
+mod widths;
 
 pub use case::{Answer, Area, Call, Case, Header, Kind, Pack, PANIC, UNKNOWN};
 pub use compare::{Comparison, Difference, Side, Tally};
@@ -31,3 +32,4 @@ pub use run::{run, Domain};
 pub use shrink::shrink;
 pub use source::Source;
 pub use subheader::{Compression, Justification, PixelValue, Subheader};
+pub use widths::Widths;

@@ -13,5 +13,6 @@ pub mod questions;
 pub mod read;
 pub mod reorder;
 pub mod subheader;
+pub mod widths;
 
 pub use answer::{answer, lent_answer};

@@ -3,6 +3,7 @@
 
 mod sides;
 mod subheaders;
+mod widths;
 
 use crate::{Area, Call, Case, Edges, Grid, Header, Lent, Mode, Pack, WIDTHS};
 
@@ -11,7 +12,12 @@ type Cases = Box<dyn Iterator<Item = Case>>;
 /// Lists of cases, each with its name, tight.
 pub fn outside() -> Vec<(&'static str, Cases)> {
     vec![
-        ("every width to 300", Box::new(widths())),
+        ("every width to 300", Box::new(all_widths())),
+        ("every width with every entry of a table", Box::new(widths::entries())),
+        ("every call with its width barred, and with the others", Box::new(widths::calls())),
+        ("every list of calls with a table of its own", Box::new(widths::frames())),
+        ("every byte of a width table by every other", Box::new(widths::bytes())),
+        ("every length of a width table", Box::new(widths::lengths())),
         ("every grid with its fields at the limits", Box::new(grids())),
         ("every call with block sides about 8,192", Box::new(sides::calls())),
         ("every window at the ends of long sides", Box::new(sides::windows())),
@@ -56,7 +62,7 @@ fn beside(case: Case) -> impl Iterator<Item = Case> {
     (exact.saturating_sub(1)..=exact + 1).map(move |output| with_output(case.clone(), output))
 }
 
-fn widths() -> impl Iterator<Item = Case> {
+fn all_widths() -> impl Iterator<Item = Case> {
     pairs(0..=300, Mode::ALL.into_iter()).flat_map(|(nbpp, mode)| {
         let grid = Grid::new([1, 1], 1, nbpp, mode, [1, 1]);
         let image = vec![0x81; 40];

@@ -3,7 +3,7 @@
 use cases::model::{answer, frame, layout, mask, questions, read, reorder};
 use cases::{
     figures, generate, outside, random_size, Area, Case, Edges, Grid, Header, Kind, Lent, Mode, Pack, Size, Source,
-    WIDTHS,
+    Widths, WIDTHS,
 };
 
 #[test]
@@ -18,13 +18,15 @@ fn widths() {
     for nbpp in 0..300 {
         let grid = Grid::new([1, 1], 1, nbpp, Mode::B, [1, 1]);
         let expected = if WIDTHS.contains(&nbpp) { 0 } else { 2 };
-        assert_eq!(questions::grid(&grid), expected, "NBPP {nbpp}");
+        assert_eq!(questions::grid(&grid, &Widths::STANDARD), expected, "NBPP {nbpp}");
     }
 }
 
 #[test]
 fn grid_limits() {
-    let number = |picture, bands, nbpp, block| questions::grid(&Grid::new(picture, bands, nbpp, Mode::S, block));
+    let number = |picture, bands, nbpp, block| {
+        questions::grid(&Grid::new(picture, bands, nbpp, Mode::S, block), &Widths::STANDARD)
+    };
     assert_eq!(number([0, 1], 1, 8, [1, 1]), 1);
     assert_eq!(number([1, 100_000_000], 1, 8, [1, 8192]), 1);
     assert_eq!(number([1, 1], 1, 8, [1, 8193]), 1);
@@ -33,13 +35,13 @@ fn grid_limits() {
     assert_eq!(number([9_999, 1], 1, 8, [1, 1]), 0);
     assert_eq!(number([10_000, 1], 1, 8, [1, 1]), 3);
     let grid = Grid { nbpr: 2, ..Grid::new([1, 1], 1, 8, Mode::B, [1, 1]) };
-    assert_eq!(questions::grid(&grid), 3);
+    assert_eq!(questions::grid(&grid, &Widths::STANDARD), 3);
 }
 
 /// A block's side above 8,192 is the picture's own, and not the picture's other side.
 #[test]
 fn long_sides() {
-    let number = |picture, block| questions::grid(&Grid::new(picture, 1, 1, Mode::S, block));
+    let number = |picture, block| questions::grid(&Grid::new(picture, 1, 1, Mode::S, block), &Widths::STANDARD);
     for side in [8_193, 9_000, 99_999_999] {
         assert_eq!(number([1, side], [1, side]), 0);
         assert_eq!(number([side, 1], [side, 1]), 0);
@@ -48,18 +50,18 @@ fn long_sides() {
         assert_eq!(number([1, side - 1], [1, side]), 1);
         assert_eq!(number([side, 1], [side + 1, 1]), 1);
         let grid = Grid::new([1, side], 1, 1, Mode::B, [1, side]);
-        assert_eq!(questions::grid(&Grid { nbpr: 2, ..grid }), 3);
+        assert_eq!(questions::grid(&Grid { nbpr: 2, ..grid }, &Widths::STANDARD), 3);
     }
     assert_eq!(number([1, 8_194], [1, 8_193]), 1);
     assert_eq!(number([100_000_000, 1], [100_000_000, 1]), 1);
     assert_eq!(number([8_193, 8_193], [8_193, 8_193]), 0);
     let none = Grid { nrows: 0, nppbv: 0, ..Grid::new([1, 1], 1, 8, Mode::B, [1, 1]) };
-    assert_eq!(questions::grid(&none), 1);
+    assert_eq!(questions::grid(&none, &Widths::STANDARD), 1);
 }
 
 #[test]
 fn image_limit() {
-    let held = |grid: Grid| (layout::image_bytes(&grid), questions::grid(&grid));
+    let held = |grid: Grid| (layout::image_bytes(&grid), questions::grid(&grid, &Widths::STANDARD));
     for mode in Mode::ALL {
         // 9,241 bands, or blocks, of 464,773 bytes.
         let largest = Grid::new([1_143, 3_253], 9_241, 1, mode, [1_143, 3_253]);
@@ -88,22 +90,22 @@ fn image_limit() {
 fn lent_buffers() {
     let grid = Grid::new([2, 2], 1, 8, Mode::B, [1, 1]);
     let image = [1, 2, 3, 4];
-    assert_eq!(read::block(&grid, &image, (0, 0), 0, None, &mut []).0, 9);
+    assert_eq!(read::block(&grid, &Widths::STANDARD, &image, (0, 0), 0, None, &mut []).0, 9);
     let area = Area { top: 1, left: 1, rows: 1, columns: 2 };
-    assert_eq!(read::window(&grid, &image, area, None, &mut [0; 4]), 10);
+    assert_eq!(read::window(&grid, &Widths::STANDARD, &image, area, None, &mut [0; 4]), 10);
     let area = Area { columns: 0, ..area };
-    assert_eq!(read::window(&grid, &image, area, None, &mut [0; 4]), 10);
+    assert_eq!(read::window(&grid, &Widths::STANDARD, &image, area, None, &mut [0; 4]), 10);
     let area = Area { top: 0, left: 0, rows: 2, columns: 2 };
-    assert_eq!(read::window(&grid, &image, area, None, &mut [0; 3]), 9);
-    assert_eq!(frame::start(&grid, &mut [0; 3], &mut []), 11);
-    assert_eq!(frame::start(&grid, &mut [0; 4], &mut []), 12);
-    assert_eq!(frame::progress(&grid, &[]), (12, 0));
+    assert_eq!(read::window(&grid, &Widths::STANDARD, &image, area, None, &mut [0; 3]), 9);
+    assert_eq!(frame::start(&grid, &Widths::STANDARD, &mut [0; 3], &mut []), 11);
+    assert_eq!(frame::start(&grid, &Widths::STANDARD, &mut [0; 4], &mut []), 12);
+    assert_eq!(frame::progress(&grid, &Widths::STANDARD, &[]), (12, 0));
     // Bits above the grid's marks count for nothing.
-    assert_eq!(frame::progress(&grid, &[0xf5]), (0, 2));
-    assert_eq!(frame::finish(&grid, &image, &[0xf5]), (15, 0, 1));
+    assert_eq!(frame::progress(&grid, &Widths::STANDARD, &[0xf5]), (0, 2));
+    assert_eq!(frame::finish(&grid, &Widths::STANDARD, &image, &[0xf5]), (15, 0, 1));
     let sequential = Grid { mode: Mode::S, ..grid };
-    assert_eq!(read::whole(&sequential, &[], (1, 1)), (0, &[][..]));
-    assert_eq!(read::whole(&sequential, &[], (2, 1)), (6, &[][..]));
+    assert_eq!(read::whole(&sequential, &Widths::STANDARD, &[], (1, 1)), (0, &[][..]));
+    assert_eq!(read::whole(&sequential, &Widths::STANDARD, &[], (2, 1)), (6, &[][..]));
 }
 
 /// The samples (band, row, column) of so many rows and columns, one after the other in the order of the mode.
@@ -135,7 +137,10 @@ fn edge_rules() {
     for (nbpp, mode) in WIDTHS.into_iter().flat_map(|nbpp| Mode::ALL.map(|mode| (nbpp, mode))) {
         let tight = Grid::new([4, 5], 3, nbpp, mode, [3, 3]);
         let full = Grid { edges: Edges::Full, ..tight };
-        assert_eq!((questions::grid(&full), layout::image_bytes(&full)), (0, layout::image_bytes(&tight)));
+        assert_eq!(
+            (questions::grid(&full, &Widths::STANDARD), layout::image_bytes(&full)),
+            (0, layout::image_bytes(&tight))
+        );
         for (row, column) in tight.every_block() {
             assert_eq!(layout::block_end(&full, row, column), layout::block_end(&tight, row, column));
             let (rows, columns) = (layout::actual_rows(&tight, row), layout::actual_columns(&tight, column));
@@ -166,7 +171,7 @@ fn written_over_other_bytes() {
         let t = layout::band_bytes(&grid) as usize;
         let (mut image, mut marks) = (vec![0xff; 4 * t], [0]);
         let zeros = vec![0; 2 * layout::sample_bytes(&grid) as usize];
-        assert_eq!(frame::write(&grid, &mut image, &mut marks, (1, 1), [1, 1, 2], &zeros), 0);
+        assert_eq!(frame::write(&grid, &Widths::STANDARD, &mut image, &mut marks, (1, 1), [1, 1, 2], &zeros), 0);
         assert!(image[..3 * t].iter().all(|&byte| byte == 0xff));
         let cleared = if layout::byte_multiple(&grid) { zeros.len() } else { t };
         assert_eq!(image[3 * t..], [vec![0; cleared], vec![0xff; t - cleared]].concat(), "NBPP {nbpp} {edges:?}");
@@ -184,7 +189,9 @@ fn samples_that_do_not_fit() {
             let before = (image.clone(), marks);
             let mut data = vec![0; 2 * size];
             data[bit / 8] = 0x80 >> (bit % 8);
-            let mut write = |shape, data: &[u8]| frame::write(&grid, &mut image, &mut marks, (0, 0), shape, data);
+            let mut write = |shape, data: &[u8]| {
+                frame::write(&grid, &Widths::STANDARD, &mut image, &mut marks, (0, 0), shape, data)
+            };
             assert_eq!(write([1, 1, 1], &data), 13);
             assert_eq!(write([1, 1, 2], &data[1..]), 14);
             let fits = 8 * size - 1 - bit % (8 * size) < nbpp as usize;
@@ -214,8 +221,9 @@ fn drawn_samples() {
 #[test]
 fn mask_questions() {
     let grid = Grid::new([1, 1], 1, 8, Mode::B, [1, 1]);
-    let write =
-        |header: Header, blocks: &[u32], room: usize| mask::write(&grid, &header, blocks, &[], &mut vec![0; room]);
+    let write = |header: Header, blocks: &[u32], room: usize| {
+        mask::write(&grid, &Widths::STANDARD, &header, blocks, &[], &mut vec![0; room])
+    };
     let header = Header { block_length: 4, ..Header::default() };
     assert_eq!(write(header, &[7], 14), (0, 14));
     assert_eq!(write(header, &[7], 13), (9, 0));
@@ -227,11 +235,11 @@ fn mask_questions() {
     assert_eq!(write(Header { code_bits: 1, code: 256, ..header }, &[7], 20), (20, 0));
     assert_eq!(write(Header { code_bits: 1, code: 255, ..header }, &[7], 20), (0, 15));
     let many = Grid::new([9_999, 9_999], 21, 1, Mode::S, [1, 1]);
-    assert_eq!(mask::write(&many, &header, &[], &[], &mut []), (21, 0));
+    assert_eq!(mask::write(&many, &Widths::STANDARD, &header, &[], &[], &mut []), (21, 0));
     let table = [0, 0, 0, 14, 0, 4, 0, 0, 0, 0, 0, 0, 0, 9];
-    assert_eq!(mask::lookup(&grid, &table, (0, 0), 0), (0, true, Some(9)));
-    assert_eq!(mask::lookup(&grid, &table, (0, 1), 0), (6, false, None));
-    assert_eq!(mask::lookup(&grid, &table, (0, 0), 1), (8, false, None));
+    assert_eq!(mask::lookup(&grid, &Widths::STANDARD, &table, (0, 0), 0), (0, true, Some(9)));
+    assert_eq!(mask::lookup(&grid, &Widths::STANDARD, &table, (0, 1), 0), (6, false, None));
+    assert_eq!(mask::lookup(&grid, &Widths::STANDARD, &table, (0, 0), 1), (8, false, None));
 }
 
 #[test]
@@ -274,7 +282,7 @@ fn lent_lengths() {
     assert_eq!(Lent::of(&refused).output, 0);
 }
 
-/// Every number is reached, but for 5 and 13, which the original gives too, and 25, which no call gives.
+/// Every number is reached, but for 5 and 13, which the original gives too, and 25 and 28 to 32, which no call gives.
 #[test]
 fn outside_reaches() {
     let mut numbers = [false; 256];
@@ -287,9 +295,9 @@ fn outside_reaches() {
             }
         }
     }
-    let missing: Vec<usize> = (0..=26).filter(|&number| !numbers[number]).collect();
-    assert_eq!(missing, [5, 13, 25]);
-    assert!(numbers[27..].iter().all(|&reached| !reached));
+    let missing: Vec<usize> = (0..=33).filter(|&number| !numbers[number]).collect();
+    assert_eq!(missing, [5, 13, 25, 28, 29, 30, 31, 32]);
+    assert!(numbers[34..].iter().all(|&reached| !reached));
 }
 
 /// An answer to questions 1 to 4 that is wrong on some grids.
@@ -298,25 +306,32 @@ type Wrong = fn(&Grid) -> u8;
 #[test]
 fn wrong_limits_are_found() {
     let wrong: [(&str, Wrong); 4] = [
-        ("a limit of 8,192", |g| if g.nppbh.max(g.nppbv) > 8_192 { 1 } else { questions::grid(g) }),
+        ("a limit of 8,192", |g| if g.nppbh.max(g.nppbv) > 8_192 { 1 } else { questions::grid(g, &Widths::STANDARD) }),
         ("the picture's other side", |g| {
             let own = if g.nppbh == g.nrows { Grid { nppbh: g.ncols, nbpr: 1, ..*g } } else { *g };
-            questions::grid(&own)
+            questions::grid(&own, &Widths::STANDARD)
         }),
         ("bytes in 64 bits", |g| {
             let t = (u64::from(g.nppbh) * u64::from(g.nppbv)).wrapping_mul(u64::from(g.nbpp)).div_ceil(8);
             let bytes = g.blocks().wrapping_mul(u64::from(g.bands)).wrapping_mul(t);
-            let number = questions::grid(g);
+            let number = questions::grid(g, &Widths::STANDARD);
             if number == 4 && bytes <= 4_294_967_294 {
                 0
             } else {
                 number
             }
         }),
-        ("a byte less", |g| if layout::image_bytes(g) == 4_294_967_294 { 4 } else { questions::grid(g) }),
+        ("a byte less", |g| {
+            if layout::image_bytes(g) == 4_294_967_294 {
+                4
+            } else {
+                questions::grid(g, &Widths::STANDARD)
+            }
+        }),
     ];
     for (name, wrong) in wrong {
-        let differs = |case| matches!(case, Case::Parse { grid, .. } if wrong(&grid) != questions::grid(&grid));
+        let right = |grid| questions::grid(grid, &Widths::STANDARD);
+        let differs = |case| matches!(case, Case::Parse { grid, .. } if wrong(&grid) != right(&grid));
         assert!(outside().into_iter().flat_map(|(_, cases)| cases).any(differs), "{name}");
     }
 }

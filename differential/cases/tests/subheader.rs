@@ -1,7 +1,9 @@
 //! The model's reader and writer of a subheader's parts, and wrong ones that the cases find.
 
 use cases::model::subheader::{self, write};
-use cases::{model, outside, Answer, Case, Compression, Edges, Grid, Justification, Lent, Mode, PixelValue, Subheader};
+use cases::{
+    model, outside, Answer, Case, Compression, Edges, Grid, Justification, Lent, Mode, PixelValue, Subheader, Widths,
+};
 
 /// Picture 3 x 5 in blocks of 2 x 4, 2 bands of 8 bits.
 const PARTS: [&[u8]; 3] = [b"0000000300000005SI MULTI   MS      07L", b"NM", b"R000200020004000208"];
@@ -20,7 +22,7 @@ fn fields() -> Subheader {
 
 /// The reader under the rule tight.
 fn read(parts: [&[u8]; 3], bands: u32) -> Result<Subheader, u8> {
-    subheader::read(parts, bands, Edges::Tight)
+    subheader::read(parts, bands, Edges::Tight, &Widths::STANDARD)
 }
 
 /// A part with some bytes replaced.
@@ -57,7 +59,7 @@ fn reads_the_fields() {
 fn edge_rule_is_given() {
     for edges in Edges::ALL {
         let held = Subheader { grid: Grid { edges, ..fields().grid }, ..fields() };
-        assert_eq!(subheader::read(PARTS, 2, edges), Ok(held));
+        assert_eq!(subheader::read(PARTS, 2, edges, &Widths::STANDARD), Ok(held));
         assert_eq!(written(&held, [38, 2, 19]), (0, PARTS.map(<[u8]>::to_vec)));
     }
 }
@@ -80,7 +82,7 @@ fn zero_stands_for_the_picture() {
 /// The number, and what the outputs of these lengths then hold.
 fn written(s: &Subheader, parts: [u64; 3]) -> (u8, [Vec<u8>; 3]) {
     let mut outputs = Lent { parts, ..Lent::default() }.parts();
-    (write(s, &mut outputs), outputs)
+    (write(s, &Widths::STANDARD, &mut outputs), outputs)
 }
 
 #[test]
@@ -200,16 +202,22 @@ type WrongWriter = fn(&Subheader, &mut Parts) -> u8;
 fn wrong_writers_are_found() {
     let wrong: [(&str, WrongWriter); 4] = [
         ("writes zero at 8,192", |s, outputs| {
-            let number = write(s, outputs);
+            let number = write(s, &Widths::STANDARD, outputs);
             if number == 0 && s.grid.nppbv == 8_192 {
                 outputs[2][13..17].fill(b'0');
             }
             number
         }),
-        ("asks 1 before 24", |s, outputs| if s.grid.nrows == 0 { 1 } else { write(s, outputs) }),
-        ("asks 9 before 1", |s, outputs| if s.abpp < 100 && outputs[0].is_empty() { 9 } else { write(s, outputs) }),
+        ("asks 1 before 24", |s, outputs| if s.grid.nrows == 0 { 1 } else { write(s, &Widths::STANDARD, outputs) }),
+        ("asks 9 before 1", |s, outputs| {
+            if s.abpp < 100 && outputs[0].is_empty() {
+                9
+            } else {
+                write(s, &Widths::STANDARD, outputs)
+            }
+        }),
         ("writes before 9", |s, outputs| {
-            let number = write(s, outputs);
+            let number = write(s, &Widths::STANDARD, outputs);
             if number == 9 && outputs[1].len() >= 2 {
                 outputs[1][..2].copy_from_slice(&s.ic.text());
             }

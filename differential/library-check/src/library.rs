@@ -1,41 +1,66 @@
 //! The library's answer to a case, through its Rust crate and over lent buffers.
 
 use cases::{pattern, Answer, Area, Call, Case, Edges, Grid, Header, Lent, Mode, Pack, UNKNOWN};
-use gezdunar::{Bands, EdgeRule, ImageDataMask, InterleaveMode, Refusal, Reordered, Shape, Window};
+use gezdunar::{Bands, EdgeRule, ImageDataMask, InterleaveMode, Refusal, Reordered, Shape, Widths, Window};
 
 use crate::subheader;
 
 pub fn answer(case: &Case) -> Answer {
+    lent_answer(case.call(), &Lent::of(case))
+}
+
+/// The same of a case that has no table of its own, and with tables that take its width: one that bars all others, one
+/// that bars 12 only. If that is another answer, it is given, so that it shows.
+pub fn answer_with_others_barred(case: &Case) -> Answer {
     let lent = Lent::of(case);
-    match case.call() {
-        Case::Read { grid, image, row, column, level, bands } => with_output(&lent, |out| {
+    let answer = lent_answer(case.call(), &lent);
+    let Some(grid) = case.grid() else {
+        return answer;
+    };
+    let tables = [cases::Widths::alone(grid.nbpp), cases::Widths::STANDARD.with_entry(12, 0)];
+    let taking = tables.into_iter().filter(|widths| widths.takes(grid.nbpp));
+    let mut others = taking.map(|widths| lent_answer(case.call(), &Lent { widths, ..lent }));
+    others.find(|other| *other != answer).unwrap_or(answer)
+}
+
+/// The answer of a call that is lent these buffers and handed this table.
+pub fn lent_answer(case: &Case, lent: &Lent) -> Answer {
+    let widths = &table(&lent.widths);
+    match case {
+        Case::Read { grid, image, row, column, level, bands } => with_output(lent, |out| {
             let (grid, bands) = (record(grid), asked(bands));
-            gezdunar::decode_block(image, &grid, *row, *column, *level, bands, out).map(numbers)
+            gezdunar::decode_block(image, &grid, widths, *row, *column, *level, bands, out).map(numbers)
         }),
-        Case::Whole { grid, image, row, column } => match gezdunar::whole_block(image, &record(grid), *row, *column) {
-            Ok(part) => Answer { bytes: part.to_vec(), ..Answer::default() },
-            Err(refusal) => Answer::refused(number(refusal)),
-        },
+        Case::Whole { grid, image, row, column } => {
+            match gezdunar::whole_block(image, &record(grid), widths, *row, *column) {
+                Ok(part) => Answer { bytes: part.to_vec(), ..Answer::default() },
+                Err(refusal) => Answer::refused(number(refusal)),
+            }
+        }
         Case::Window { grid, image, area, bands } => {
-            with_output(&lent, |out| window(&record(grid), image, area, asked(bands), out))
+            with_output(lent, |out| window(&record(grid), widths, image, area, asked(bands), out))
         }
-        Case::Frame { grid, calls } => frame(&record(grid), calls, &lent),
-        Case::Parse { grid, table } => parse(&record(grid), table),
-        Case::Rewrite { grid, table } => rewrite(&record(grid), table),
+        Case::Frame { grid, calls } => frame(&record(grid), calls, lent),
+        Case::Parse { grid, table } => parse(&record(grid), widths, table),
+        Case::Rewrite { grid, table } => rewrite(&record(grid), widths, table),
         Case::MaskWrite { grid, header, blocks, pads } => {
-            with_output(&lent, |out| mask_write(&record(grid), &mask(header), blocks, pads, out))
+            with_output(lent, |out| mask_write(&record(grid), widths, &mask(header), blocks, pads, out))
         }
-        Case::Lookup { grid, table, row, column, band } => lookup(&record(grid), table, (*row, *column), *band),
-        Case::FromMarks { grid, marks } => from_marks(&record(grid), marks, &lent),
+        Case::Lookup { grid, table, row, column, band } => lookup(&record(grid), widths, table, (*row, *column), *band),
+        Case::FromMarks { grid, marks } => from_marks(&record(grid), marks, lent),
         Case::ToSequential { pack, data } => {
-            with_output(&lent, |out| reordered(gezdunar::to_band_sequential, pack, data, out))
+            with_output(lent, |out| reordered(gezdunar::to_band_sequential, pack, data, out))
         }
         Case::FromSequential { pack, data } => {
-            with_output(&lent, |out| reordered(gezdunar::from_band_sequential, pack, data, out))
+            with_output(lent, |out| reordered(gezdunar::from_band_sequential, pack, data, out))
         }
-        Case::Select { pack, data, bands, .. } => with_output(&lent, |out| selected(pack, data, asked(bands), out)),
-        Case::ReadSubheader { parts, bands, edges } => subheader::read_answer(parts, *bands, *edges),
-        Case::WriteSubheader { subheader } => subheader::write_answer(subheader, &lent),
+        Case::Select { pack, data, bands, .. } => with_output(lent, |out| selected(pack, data, asked(bands), out)),
+        Case::ReadSubheader { parts, bands, edges } => subheader::read_answer(parts, *bands, *edges, widths),
+        Case::WriteSubheader { subheader } => subheader::write_answer(subheader, lent, widths),
+        Case::Load { bytes } => match gezdunar::Widths::load(bytes) {
+            Ok(widths) => Answer { bytes: widths.entries().to_vec(), ..Answer::default() },
+            Err(refusal) => Answer::refused(number(refusal)),
+        },
         Case::Lent { .. } => unreachable!("lengths are given once"),
     }
 }
@@ -59,6 +84,11 @@ pub fn rule(edges: Edges) -> EdgeRule {
 pub fn record(grid: &Grid) -> gezdunar::Grid {
     let Grid { nrows, ncols, bands, nbpp, mode, edges, nppbh, nppbv, nbpr, nbpc } = *grid;
     gezdunar::Grid { nrows, ncols, bands, nbpp, imode: imode(mode), edges: rule(edges), nppbh, nppbv, nbpr, nbpc }
+}
+
+/// The table as the calls are handed it.
+pub fn table(widths: &cases::Widths) -> Widths {
+    Widths::new(widths.0)
 }
 
 fn asked(bands: &Option<Vec<u32>>) -> Bands<'_> {
@@ -104,6 +134,7 @@ fn with_output(lent: &Lent, call: impl FnOnce(&mut [u8]) -> Result<Vec<u64>, Ref
 
 fn window(
     grid: &gezdunar::Grid,
+    widths: &Widths,
     image: &[u8],
     area: &Area,
     bands: Bands<'_>,
@@ -112,12 +143,13 @@ fn window(
     let Area { top, left, rows, columns } = *area;
     let window = Window { row: top, column: left, rows, columns };
     let expected = [bands.count(grid.bands), rows as usize, columns as usize];
-    let shape = gezdunar::read_window(image, grid, window, bands, out)?;
+    let shape = gezdunar::read_window(image, grid, widths, window, bands, out)?;
     Ok(unexpected(numbers(shape), &expected))
 }
 
 fn mask_write(
     grid: &gezdunar::Grid,
+    widths: &Widths,
     mask: &ImageDataMask,
     blocks: &[u32],
     pads: &[u32],
@@ -125,7 +157,7 @@ fn mask_write(
 ) -> Result<Vec<u64>, Refusal> {
     let code = usize::from(mask.pad_pixel_code_length.div_ceil(8));
     let expected = 10 + code + 4 * (blocks.len() + pads.len());
-    let bytes = gezdunar::mask_write(grid, mask, blocks, pads, out)?;
+    let bytes = gezdunar::mask_write(grid, widths, mask, blocks, pads, out)?;
     Ok(unexpected(vec![bytes as u64], &[expected]))
 }
 
@@ -153,13 +185,16 @@ fn counts(answer: Reordered) -> Vec<u64> {
 /// The calls on one image and one set of marks.
 fn frame(grid: &gezdunar::Grid, calls: &[Call], lent: &Lent) -> Answer {
     let (mut image, mut marks) = (lent.image(), lent.marks());
-    let start = if lent.no_start { Ok(()) } else { gezdunar::start(&mut image, &mut marks, grid) };
+    let start =
+        if lent.no_start { Ok(()) } else { gezdunar::start(&mut image, &mut marks, grid, &table(&lent.widths)) };
     let (mut grid, mut values, mut scratches) = (*grid, Vec::new(), Vec::new());
     for call in calls {
+        let (call, widths) = call.with_widths(&lent.widths);
+        let widths = &table(&widths);
         let answer = match call {
             Call::Relay { scratch } => {
                 let mut scratch = pattern(*scratch);
-                let relaid = gezdunar::relay(&mut image, &marks, &grid, &mut scratch);
+                let relaid = gezdunar::relay(&mut image, &marks, &grid, widths, &mut scratch);
                 scratches.extend(scratch);
                 let number = relaid.map_or_else(number, |full| {
                     grid = full;
@@ -167,7 +202,7 @@ fn frame(grid: &gezdunar::Grid, calls: &[Call], lent: &Lent) -> Answer {
                 });
                 [u64::from(number), u64::from(grid.edges == EdgeRule::Full), 0]
             }
-            call => match frame_call(&grid, call, &mut image, &mut marks) {
+            call => match frame_call(&grid, widths, call, &mut image, &mut marks) {
                 Ok(count) => [0, count, 0],
                 Err(Refusal::UnmarkedBlock { row, column }) => [15, u64::from(row), u64::from(column)],
                 Err(refusal) => [u64::from(number(refusal)), 0, 0],
@@ -182,17 +217,24 @@ fn frame(grid: &gezdunar::Grid, calls: &[Call], lent: &Lent) -> Answer {
 }
 
 /// One call but a re-lay; the count for progress.
-fn frame_call(grid: &gezdunar::Grid, call: &Call, image: &mut [u8], marks: &mut [u64]) -> Result<u64, Refusal> {
+fn frame_call(
+    grid: &gezdunar::Grid,
+    widths: &Widths,
+    call: &Call,
+    image: &mut [u8],
+    marks: &mut [u64],
+) -> Result<u64, Refusal> {
     match call {
         Call::Write { row, column, shape, data } => {
             let [bands, rows, columns] = shape.map(|n| n as usize);
             let shape = Shape { bands, rows, columns };
-            gezdunar::encode_block(image, marks, grid, *row, *column, shape, data).map(|()| 0)
+            gezdunar::encode_block(image, marks, grid, widths, *row, *column, shape, data).map(|()| 0)
         }
-        Call::Skip { row, column } => gezdunar::skip_block(image, marks, grid, *row, *column).map(|()| 0),
-        Call::Progress => gezdunar::progress(marks, grid).map(|count| count as u64),
-        Call::Finish => gezdunar::finalize(image, marks, grid).map(|()| 0),
+        Call::Skip { row, column } => gezdunar::skip_block(image, marks, grid, widths, *row, *column).map(|()| 0),
+        Call::Progress => gezdunar::progress(marks, grid, widths).map(|count| count as u64),
+        Call::Finish => gezdunar::finalize(image, marks, grid, widths).map(|()| 0),
         Call::Relay { .. } => unreachable!("it changes the grid"),
+        Call::Handed { .. } => unreachable!("a table is handed once"),
     }
 }
 
@@ -201,8 +243,8 @@ fn lengths(mask: &ImageDataMask) -> [u64; 3] {
     [lengths[0], lengths[1], mask.pad_pixel_code_length].map(u64::from)
 }
 
-fn parse(grid: &gezdunar::Grid, table: &[u8]) -> Answer {
-    let parsed = match gezdunar::mask_parse(table, grid) {
+fn parse(grid: &gezdunar::Grid, widths: &Widths, table: &[u8]) -> Answer {
+    let parsed = match gezdunar::mask_parse(table, grid, widths) {
         Ok(parsed) => parsed,
         Err(refusal) => return Answer::refused(number(refusal)),
     };
@@ -213,8 +255,8 @@ fn parse(grid: &gezdunar::Grid, table: &[u8]) -> Answer {
 }
 
 /// The records are read out of the table, as many in each list that the header has.
-fn rewrite(grid: &gezdunar::Grid, table: &[u8]) -> Answer {
-    let parsed = match gezdunar::mask_parse(table, grid) {
+fn rewrite(grid: &gezdunar::Grid, widths: &Widths, table: &[u8]) -> Answer {
+    let parsed = match gezdunar::mask_parse(table, grid, widths) {
         Ok(parsed) => parsed,
         Err(refusal) => return Answer::refused(number(refusal)),
     };
@@ -231,13 +273,13 @@ fn rewrite(grid: &gezdunar::Grid, table: &[u8]) -> Answer {
     };
     let lent = Lent { output: parsed.used as u64, ..Lent::default() };
     let (blocks, pads) = words.split_at(blocks);
-    with_output(&lent, |out| mask_write(grid, &mask, blocks, pads, out))
+    with_output(&lent, |out| mask_write(grid, widths, &mask, blocks, pads, out))
 }
 
 /// The two calls are refused alike, or the number is none of the documents'.
-fn lookup(grid: &gezdunar::Grid, table: &[u8], (row, column): (u32, u32), band: u32) -> Answer {
-    let present = gezdunar::has_block(table, grid, row, column, band);
-    let offset = gezdunar::get_block_offset(table, grid, row, column, band);
+fn lookup(grid: &gezdunar::Grid, widths: &Widths, table: &[u8], (row, column): (u32, u32), band: u32) -> Answer {
+    let present = gezdunar::has_block(table, grid, widths, row, column, band);
+    let offset = gezdunar::get_block_offset(table, grid, widths, row, column, band);
     match (present, offset) {
         (Ok(present), Ok(offset)) => {
             let known = u64::from(offset.is_some());
@@ -251,7 +293,7 @@ fn lookup(grid: &gezdunar::Grid, table: &[u8], (row, column): (u32, u32), band: 
 
 fn from_marks(grid: &gezdunar::Grid, marks: &[u64], lent: &Lent) -> Answer {
     let mut out = lent.output_words();
-    let parsed = gezdunar::mask_from_marks(marks, grid, &mut out);
+    let parsed = gezdunar::mask_from_marks(marks, grid, &table(&lent.widths), &mut out);
     let bytes = out.into_iter().flat_map(u32::to_be_bytes).collect();
     match parsed {
         Ok(parsed) => {

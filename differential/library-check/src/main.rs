@@ -1,8 +1,9 @@
 //! Holds the library against the original, or against the model of the documents. Stops at the first
 //! difference and prints the smallest input found that shows it.
 //!
-//! `library-check [SEED [CASES]]`: against the original, on the compared domain, with the enums of a
-//! subheader's fields; CASES random cases of each kind; 1 and 20000 if not given.
+//! `library-check [SEED [CASES]]`: against the original, on the compared domain, with the constant width table and with
+//! tables that bar other widths, and with the enums of a subheader's fields; CASES random cases of each kind; 1 and
+//! 20000 if not given.
 //! `library-check model [SEED [CASES]]`: against the model, also outside the compared domain.
 //! `library-check differences`: small inputs outside the compared domain, and what both do with them.
 
@@ -33,6 +34,7 @@ fn main() -> ExitCode {
                 println!("{difference}");
                 return ExitCode::FAILURE;
             }
+            let library = Side::new("the library", |case| Some(library::answer_with_others_barred(case)));
             let original = Side::new("the original", original::answer);
             run(Comparison::new([library, original]), Domain::Compared, &words)
         }

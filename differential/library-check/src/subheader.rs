@@ -1,7 +1,7 @@
 //! The library's answer to a read or a write of three parts of an image subheader.
 
 use cases::{Answer, Compression, Edges, Grid, Justification, Lent, Mode, PixelValue, Subheader};
-use gezdunar::{ImageCompression, ImageSubheader, PixelJustification, PixelValueType};
+use gezdunar::{ImageCompression, ImageSubheader, PixelJustification, PixelValueType, Widths};
 
 use crate::library::{imode, number, record, rule};
 
@@ -35,8 +35,8 @@ fn named<T: Copy, L: PartialEq>(values: &[T], to: fn(T) -> L, held: &L) -> T {
 }
 
 /// The fields, or the number.
-pub fn read([first, second, third]: [&[u8]; 3], bands: u32, edges: Edges) -> Result<Subheader, u8> {
-    let s = ImageSubheader::read(first, second, third, bands, rule(edges)).map_err(number)?;
+pub fn read([first, second, third]: [&[u8]; 3], bands: u32, edges: Edges, widths: &Widths) -> Result<Subheader, u8> {
+    let s = ImageSubheader::read(first, second, third, bands, rule(edges), widths).map_err(number)?;
     let gezdunar::Grid { nrows, ncols, bands, nbpp, imode: held, edges, nppbh, nppbv, nbpr, nbpc } = s.grid;
     let (mode, edges) = (named(&Mode::ALL, imode, &held), named(&Edges::ALL, rule, &edges));
     Ok(Subheader {
@@ -51,28 +51,28 @@ pub fn read([first, second, third]: [&[u8]; 3], bands: u32, edges: Edges) -> Res
 }
 
 /// The number.
-pub fn write(s: &Subheader, outputs: &mut [Vec<u8>; 3]) -> u8 {
+pub fn write(s: &Subheader, widths: &Widths, outputs: &mut [Vec<u8>; 3]) -> u8 {
     let Subheader { irep, icat, abpp, .. } = *s;
     let (pvtype, pjust, ic, grid) = (pvtype(s.pvtype), pjust(s.pjust), ic(s.ic), record(&s.grid));
     let [first, second, third] = outputs;
-    let written = ImageSubheader { pvtype, irep, icat, abpp, pjust, ic, grid }.write(first, second, third);
+    let written = ImageSubheader { pvtype, irep, icat, abpp, pjust, ic, grid }.write(widths, first, second, third);
     written.map_or_else(number, |()| 0)
 }
 
-pub fn read_answer(parts: &[Vec<u8>; 3], bands: u32, edges: Edges) -> Answer {
+pub fn read_answer(parts: &[Vec<u8>; 3], bands: u32, edges: Edges, widths: &Widths) -> Answer {
     let parts = parts.each_ref().map(Vec::as_slice);
-    read(parts, bands, edges).map_or_else(Answer::refused, |subheader| subheader.answer())
+    read(parts, bands, edges, widths).map_or_else(Answer::refused, |subheader| subheader.answer())
 }
 
 /// What is written is read again: it has no values if it is the same, else a 1, so that it shows.
-pub fn write_answer(subheader: &Subheader, lent: &Lent) -> Answer {
+pub fn write_answer(subheader: &Subheader, lent: &Lent, widths: &Widths) -> Answer {
     let mut outputs = lent.parts();
-    let number = write(subheader, &mut outputs);
+    let number = write(subheader, widths, &mut outputs);
     let mut values = Vec::new();
     if number == 0 {
         let parts = [&outputs[0][..38], &outputs[1][..2], &outputs[2][..19]];
         let Grid { bands, edges, .. } = subheader.grid;
-        if read(parts, bands, edges) != Ok(*subheader) {
+        if read(parts, bands, edges, widths) != Ok(*subheader) {
             values.push(1);
         }
     }

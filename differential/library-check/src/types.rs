@@ -3,6 +3,7 @@
 use std::fmt::Debug;
 
 use cases::{Compression, Edges, Grid, Justification, Mode, PixelValue, Subheader};
+use gezdunar::Widths;
 use original::Refusal;
 
 use crate::subheader;
@@ -46,7 +47,7 @@ fn plain() -> [Vec<u8>; 3] {
 /// The field at a place in a part, read by the library with its value there.
 fn read(parts: &mut [Vec<u8>; 3], part: usize, at: usize, field: &[u8]) -> Result<Subheader, u8> {
     parts[part][at..at + field.len()].copy_from_slice(field);
-    subheader::read([&parts[0], &parts[1], &parts[2]], 1, Edges::Tight)
+    subheader::read([&parts[0], &parts[1], &parts[2]], 1, Edges::Tight, &Widths::STANDARD)
 }
 
 /// Every three bytes. Those that are no UTF-8 cannot be handed to the original, so that it does not read them.
@@ -88,7 +89,7 @@ fn written() -> Outcome {
                 let (irep, icat) = (*b"MONO    ", *b"VIS     ");
                 let subheader = Subheader { pvtype, irep, icat, abpp: 8, pjust, ic: Compression::Nc, grid };
                 let mut parts = plain();
-                let number = subheader::write(&subheader, &mut parts);
+                let number = subheader::write(&subheader, &Widths::STANDARD, &mut parts);
                 let library = (&parts[0][16..19], parts[0][37], parts[2][0]);
                 let letters = [original::justification_letter(pjust), original::mode_letter(mode)].map(|c| c as u8);
                 let original = (original::pixel_value_text(pvtype).as_bytes(), letters[0], letters[1]);

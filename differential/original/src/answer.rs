@@ -8,7 +8,7 @@ use cases::{Answer, Area, Call, Case, Edges, Grid, Header, Mode, Pack};
 
 use crate::{Encoder, ImageDataMask, Refusal};
 
-/// None where the original has no answer: the rule full, a whole block in S, a subheader, lent buffers.
+/// None where the original has no answer: the rule full, a whole block in S, a subheader, a width table, lent buffers.
 pub fn answer(case: &Case) -> Option<Answer> {
     if case.grid().is_some_and(|grid| grid.edges == Edges::Full) {
         return None;
@@ -18,7 +18,9 @@ pub fn answer(case: &Case) -> Option<Answer> {
             crate::decode_block(grid, image, *row, *column, *level, bands.as_deref())
                 .map(|(bytes, shape)| accepted(shape.map(u64::from).to_vec(), bytes))
         }
-        Case::Lent { .. } | Case::ReadSubheader { .. } | Case::WriteSubheader { .. } => return None,
+        Case::Lent { .. } | Case::ReadSubheader { .. } | Case::WriteSubheader { .. } | Case::Load { .. } => {
+            return None
+        }
         Case::Whole { grid, .. } if grid.mode == Mode::S => return None,
         Case::Whole { grid, image, row, column } => whole(grid, image, *row, *column),
         Case::Window { grid, image, area, bands } => window(grid, image, *area, bands.as_deref()),
@@ -106,7 +108,7 @@ fn apply(encoder: &mut Encoder, call: &Call) -> Result<(), Refusal> {
     match call {
         Call::Write { row, column, shape, data } => encoder.encode_block(*row, *column, data, *shape),
         Call::Skip { row, column } => encoder.skip_block(*row, *column),
-        Call::Progress | Call::Finish | Call::Relay { .. } => Ok(()),
+        Call::Progress | Call::Finish | Call::Relay { .. } | Call::Handed { .. } => Ok(()),
     }
 }
 
@@ -135,7 +137,7 @@ fn frame(grid: &Grid, calls: &[Call]) -> Result<Answer, Refusal> {
                 Ok(()) => [0; 3],
                 Err(refusal) => [u64::from(refusal.number()), 0, 0],
             },
-            Call::Relay { .. } => unreachable!("the original has no re-lay"),
+            Call::Relay { .. } | Call::Handed { .. } => unreachable!("the original has no re-lay and no table"),
             Call::Progress => [0, grid.blocks() - missing(grid, &calls[..i])?.len() as u64, 0],
             Call::Finish => match replay(grid, &calls[..i])?.finalize() {
                 Ok(_) => [0; 3],

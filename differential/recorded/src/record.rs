@@ -155,7 +155,9 @@ fn frame_records(grid: &Grid, calls: &[Call], answer: &Answer) -> Vec<Vec<u8>> {
             Call::Skip { row, column } => record(Ask::Skip, grid, &[*row, *column], &[], number, &[], &[]),
             Call::Progress => record(Ask::Progress, grid, &[], &[], number, &values[..1], &[]),
             Call::Finish => record(Ask::Finish, grid, &[], &[], number, values, &[]),
-            Call::Relay { .. } => unreachable!("not recorded: the original has no re-lay"),
+            Call::Relay { .. } | Call::Handed { .. } => {
+                unreachable!("not recorded: the original has no re-lay and no table")
+            }
         });
     }
     list.push(record(Ask::Contents, grid, &[], &[], 0, &[], &answer.bytes));

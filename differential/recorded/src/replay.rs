@@ -1,7 +1,7 @@
 //! Replays a file of records against the model: the program that FORMAT.md describes, without a heap.
 
 use cases::model::{frame, layout, mask, questions, read, reorder};
-use cases::{Area, Edges, Grid, Header, Mode, Pack};
+use cases::{Area, Edges, Grid, Header, Mode, Pack, Widths};
 
 use crate::record::{Ask, BYTES, HEADER, WORDS};
 
@@ -136,37 +136,37 @@ fn call<'a>(ask: Ask, g: &Grid, a: Words, input: &'a [u8], held: &mut Frame, out
     match ask {
         Ask::Read => {
             let (block, list) = ((a.at(0), a.at(1)), a.list(3, &mut room));
-            let (number, shape) = read::block(g, input, block, a.at(2), list, out);
+            let (number, shape) = read::block(g, &Widths::STANDARD, input, block, a.at(2), list, out);
             let pixels = (shape[0] * shape[1] * shape[2]) as usize;
             Given::new(number, &shape, &out[..pixels * layout::sample_bytes(g) as usize])
         }
         Ask::Whole => {
-            let (number, part) = read::whole(g, input, (a.at(0), a.at(1)));
+            let (number, part) = read::whole(g, &Widths::STANDARD, input, (a.at(0), a.at(1)));
             Given::new(number, &[], part)
         }
         Ask::Window => {
             let area = Area { top: a.at(0), left: a.at(1), rows: a.at(2), columns: a.at(3) };
             let list = a.list(4, &mut room);
-            let number = read::window(g, input, area, list, out);
+            let number = read::window(g, &Widths::STANDARD, input, area, list, out);
             let pixels = bands(list, g.bands) * (area.rows * area.columns) as usize;
             Given::new(number, &[], &out[..pixels * layout::sample_bytes(g) as usize])
         }
-        Ask::Start => Given::new(frame::start(g, &mut held.image, &mut held.marks), &[], &[]),
+        Ask::Start => Given::new(frame::start(g, &Widths::STANDARD, &mut held.image, &mut held.marks), &[], &[]),
         Ask::Write => {
             let (block, shape) = ((a.at(0), a.at(1)), [a.at(2), a.at(3), a.at(4)]);
-            let number = frame::write(g, &mut held.image, &mut held.marks, block, shape, input);
+            let number = frame::write(g, &Widths::STANDARD, &mut held.image, &mut held.marks, block, shape, input);
             Given::new(number, &[], &[])
         }
         Ask::Skip => {
             let block = (a.at(0), a.at(1));
-            Given::new(frame::skip(g, &held.image, &mut held.marks, block), &[], &[])
+            Given::new(frame::skip(g, &Widths::STANDARD, &held.image, &mut held.marks, block), &[], &[])
         }
         Ask::Progress => {
-            let (number, count) = frame::progress(g, &held.marks);
+            let (number, count) = frame::progress(g, &Widths::STANDARD, &held.marks);
             Given::new(number, &[count], &[])
         }
         Ask::Finish => {
-            let (number, row, column) = frame::finish(g, &held.image, &held.marks);
+            let (number, row, column) = frame::finish(g, &Widths::STANDARD, &held.image, &held.marks);
             Given::new(number, &[u64::from(row), u64::from(column)], &[])
         }
         Ask::Contents => {
@@ -179,7 +179,7 @@ fn call<'a>(ask: Ask, g: &Grid, a: Words, input: &'a [u8], held: &mut Frame, out
             Given::new(0, &[], &out[..image_bytes + 8 * words])
         }
         Ask::Parse => {
-            let (number, h, used) = mask::parse(g, input);
+            let (number, h, used) = mask::parse(g, &Widths::STANDARD, input);
             let [block, pad, bits] = [h.block_length, h.pad_length, h.code_bits].map(u64::from);
             let (offset, code) = (u64::from(h.imdatoff), u64::from(h.code));
             Given::new(number, &[offset, block, pad, bits, code, used], &[])
@@ -195,11 +195,11 @@ fn call<'a>(ask: Ask, g: &Grid, a: Words, input: &'a [u8], held: &mut Frame, out
             let count = a.at(4) as usize;
             let blocks = a.copied(5, count, &mut room);
             let pads = a.copied(5 + count, a.len() - 5 - count, &mut more_room);
-            let (number, size) = mask::write(g, &header, blocks, pads, out);
+            let (number, size) = mask::write(g, &Widths::STANDARD, &header, blocks, pads, out);
             Given::new(number, &[], &out[..size as usize])
         }
         Ask::Lookup => {
-            let (number, present, offset) = mask::lookup(g, input, (a.at(0), a.at(1)), a.at(2));
+            let (number, present, offset) = mask::lookup(g, &Widths::STANDARD, input, (a.at(0), a.at(1)), a.at(2));
             let known = u64::from(offset.is_some());
             let values = [u64::from(present), known, u64::from(offset.unwrap_or(0))];
             Given::new(number, &values, &[])
@@ -209,7 +209,7 @@ fn call<'a>(ask: Ask, g: &Grid, a: Words, input: &'a [u8], held: &mut Frame, out
             for (word, bytes) in marks.iter_mut().zip(input.chunks_exact(8)) {
                 *word = bytes.iter().fold(0, |word, &byte| word << 8 | u64::from(byte));
             }
-            let (number, h) = mask::from_marks(g, &marks, &mut room);
+            let (number, h) = mask::from_marks(g, &Widths::STANDARD, &marks, &mut room);
             let count = mask::records(g) as usize;
             for (bytes, word) in out.chunks_exact_mut(4).zip(&room[..count]) {
                 bytes.copy_from_slice(&word.to_be_bytes());

@@ -3,7 +3,7 @@
 
 use gezdunar::{
     EdgeRule, Grid, ImageCompression, ImageDataMask, ImageSubheader, InterleaveMode, Parsed, PixelJustification,
-    PixelValueType, Refusal, Shape, EMPTY_BLOCK_OFFSET,
+    PixelValueType, Refusal, Shape, Widths, EMPTY_BLOCK_OFFSET,
 };
 
 /// A product of counts of an accepted grid.
@@ -82,8 +82,14 @@ fn block_inside(grid: &Grid, row: u32, column: u32) -> Result<(), Refusal> {
     (row < grid.nbpc && column < grid.nbpr).then_some(()).ok_or(Refusal::BlockOutsideGrid)
 }
 
-pub fn whole_block<'a>(image: &'a [u8], grid: &Grid, row: u32, column: u32) -> Result<&'a [u8], Refusal> {
-    grid.check()?;
+pub fn whole_block<'a>(
+    image: &'a [u8],
+    grid: &Grid,
+    widths: &Widths,
+    row: u32,
+    column: u32,
+) -> Result<&'a [u8], Refusal> {
+    grid.check(widths)?;
     block_inside(grid, row, column)?;
     if grid.imode == InterleaveMode::S {
         return Ok(&[]);
@@ -111,11 +117,12 @@ fn samples_fit(grid: &Grid, data: &[u8]) -> bool {
 pub fn encode_block(
     (image, marks): (&[u8], &[u64]),
     grid: &Grid,
+    widths: &Widths,
     (row, column): (u32, u32),
     shape: Shape,
     data: &[u8],
 ) -> Result<(), Refusal> {
-    grid.check()?;
+    grid.check(widths)?;
     if image.len() < blocks(grid) * block_bytes(grid) {
         return Err(Refusal::ImageTooShort);
     }
@@ -131,13 +138,13 @@ pub fn encode_block(
     samples_fit(grid, data).then_some(()).ok_or(Refusal::SampleBits)
 }
 
-pub fn progress(marks: &[u64], grid: &Grid) -> Result<usize, Refusal> {
-    grid.check()?;
+pub fn progress(marks: &[u64], grid: &Grid, widths: &Widths) -> Result<usize, Refusal> {
+    grid.check(widths)?;
     Ok(marked(marks, grid)?.into_iter().filter(|&mark| mark).count())
 }
 
-pub fn finalize(image: &[u8], marks: &[u64], grid: &Grid) -> Result<(), Refusal> {
-    grid.check()?;
+pub fn finalize(image: &[u8], marks: &[u64], grid: &Grid, widths: &Widths) -> Result<(), Refusal> {
+    grid.check(widths)?;
     if image.len() < blocks(grid) * block_bytes(grid) {
         return Err(Refusal::ImageTooShort);
     }
@@ -152,8 +159,8 @@ fn number(table: &[u8], from: usize, bytes: usize) -> u32 {
     table[from..from + bytes].iter().fold(0, |number, &byte| number << 8 | u32::from(byte))
 }
 
-pub fn mask_parse(table: &[u8], grid: &Grid) -> Result<Parsed, Refusal> {
-    grid.check()?;
+pub fn mask_parse(table: &[u8], grid: &Grid, widths: &Widths) -> Result<Parsed, Refusal> {
+    grid.check(widths)?;
     if table.len() < 10 {
         return Err(Refusal::TableTooShort);
     }
@@ -181,8 +188,15 @@ pub fn mask_parse(table: &[u8], grid: &Grid) -> Result<Parsed, Refusal> {
 }
 
 /// Is a band of a block present, and its offset.
-pub fn lookup(table: &[u8], grid: &Grid, row: u32, column: u32, band: u32) -> Result<(bool, Option<u32>), Refusal> {
-    let mask = mask_parse(table, grid)?.mask;
+pub fn lookup(
+    table: &[u8],
+    grid: &Grid,
+    widths: &Widths,
+    row: u32,
+    column: u32,
+    band: u32,
+) -> Result<(bool, Option<u32>), Refusal> {
+    let mask = mask_parse(table, grid, widths)?.mask;
     block_inside(grid, row, column)?;
     if band >= grid.bands {
         return Err(Refusal::NoSuchBand);
@@ -223,6 +237,7 @@ pub fn subheader_read(
     third: &[u8],
     bands: u32,
     edges: EdgeRule,
+    widths: &Widths,
 ) -> Result<ImageSubheader, Refusal> {
     if (first.len(), second.len(), third.len()) != (38, 2, 19) {
         return Err(Refusal::SubheaderPart);
@@ -235,7 +250,7 @@ pub fn subheader_read(
     let ic = text(second, 0, 2)?.parse::<ImageCompression>()?;
     let imode = text(third, 0, 1)?.parse::<InterleaveMode>().map_err(|_| Refusal::NamedValue)?;
     let grid = Grid { nrows, ncols, bands, nbpp, imode, edges, nppbh, nppbv, nbpr, nbpc };
-    grid.check()?;
+    grid.check(widths)?;
     let [irep, icat] = [19, 27].map(|from| std::array::from_fn(|i| first[from + i]));
     Ok(ImageSubheader { pvtype, irep, icat, abpp, pjust, ic, grid })
 }

@@ -2,7 +2,7 @@
 
 use crate::common::{block_samples, blocks, samples, small, subheader, WIDTHS};
 use crate::place::{options, parts, Place};
-use gezdunar::{mask_write_vec, EdgeRule, Frame, Grid, ImageDataMask, InterleaveMode};
+use gezdunar::{mask_write_vec, EdgeRule, Frame, Grid, ImageDataMask, InterleaveMode, Widths};
 
 /// 7 rows by 11 columns, 3 bands of 12 bits, in blocks of 3 rows by 4 columns.
 fn odd(edges: EdgeRule) -> Grid {
@@ -18,7 +18,7 @@ fn raw(grid: &Grid) -> Vec<u8> {
 /// The image of the plain picture.
 fn image(grid: &Grid) -> Vec<u8> {
     let bands: Vec<u32> = (0..grid.bands).collect();
-    let mut frame = Frame::new(*grid).expect("the grid is accepted");
+    let mut frame = Frame::new(*grid, Widths::STANDARD).expect("the grid is accepted");
     for (row, column) in blocks(grid) {
         let data = block_samples(grid, &bands, row, column);
         frame.encode_block(row, column, grid.block_shape(row, column), &data).expect("the block is accepted");
@@ -45,7 +45,10 @@ const COMMANDS: [&str; 6] = [
 fn place(grid: &Grid) -> Place {
     let place = Place::with("image", &image(grid));
     place.put("raw", &raw(grid));
-    place.put("table", &mask_write_vec(grid, &ImageDataMask::default(), &[], &[]).expect("an accepted table"));
+    place.put(
+        "table",
+        &mask_write_vec(grid, &Widths::STANDARD, &ImageDataMask::default(), &[], &[]).expect("an accepted table"),
+    );
     place
 }
 

@@ -67,7 +67,7 @@ fn a_refused_grid_is_told_in_words() {
         (Grid { nrows: 0, ..grid }, 1, ONE, "NROWS 0, NCOLS 5, bands 2"),
         (Grid { nppbh: 0, ..grid }, 1, ONE, "NPPBH 0, NPPBV 2, NBPR 0"),
         (Grid { nppbh: 8193, ..grid }, 1, ONE, "NPPBH 8193, NPPBV 2"),
-        (Grid { nbpp: 17, ..grid }, 2, "Is NBPP 1 to 16, 24 to 32, 40, 48, 56 or 64?", "NBPP 17"),
+        (Grid { nbpp: 17, ..grid }, 2, "Is NBPP 1 to 16, 24 to 32, 40, 48, 56 or 64,", "NBPP 17"),
         (
             Grid::new(1, 10_000, 1, 8, InterleaveMode::B, EdgeRule::Full, 1, 1),
             3,

@@ -14,3 +14,4 @@ mod preview;
 mod reads;
 mod relay;
 mod subheader;
+mod widths;

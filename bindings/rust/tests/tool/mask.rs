@@ -2,12 +2,12 @@
 
 use crate::common::exact;
 use crate::place::{options, Place};
-use gezdunar::{mask_write_vec, EdgeRule, Grid, ImageDataMask, InterleaveMode, EMPTY_BLOCK_OFFSET};
+use gezdunar::{mask_write_vec, EdgeRule, Grid, ImageDataMask, InterleaveMode, Widths, EMPTY_BLOCK_OFFSET};
 
 /// A table with block records, of 1 by 1 blocks.
 fn table(grid: &Grid, offsets: &[u32]) -> Vec<u8> {
     let mask = ImageDataMask { block_mask_record_length: 4, ..ImageDataMask::default() };
-    mask_write_vec(grid, &mask, &exact(offsets), &exact(&[])).expect("the table is accepted")
+    mask_write_vec(grid, &Widths::STANDARD, &mask, &exact(offsets), &exact(&[])).expect("the table is accepted")
 }
 
 fn grid(rows: u32, columns: u32, bands: u32, imode: InterleaveMode) -> Grid {

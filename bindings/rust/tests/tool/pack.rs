@@ -2,7 +2,7 @@
 
 use crate::common::{block_samples, blocks, largest, modes_and_rules, samples};
 use crate::place::{options, Place};
-use gezdunar::{EdgeRule, Frame, Grid, InterleaveMode};
+use gezdunar::{EdgeRule, Frame, Grid, InterleaveMode, Widths};
 
 const PACK: &str = "pack --input raw --output image";
 
@@ -20,7 +20,7 @@ fn raw(grid: &Grid) -> Vec<u8> {
 /// The image of the plain picture, written block by block, with some blocks skipped.
 fn image(grid: &Grid, skipped: &[(u32, u32)]) -> Vec<u8> {
     let bands: Vec<u32> = (0..grid.bands).collect();
-    let mut frame = Frame::new(*grid).expect("the grid is accepted");
+    let mut frame = Frame::new(*grid, Widths::STANDARD).expect("the grid is accepted");
     for (row, column) in blocks(grid).into_iter().filter(|block| !skipped.contains(block)) {
         let data = block_samples(grid, &bands, row, column);
         frame.encode_block(row, column, grid.block_shape(row, column), &data).expect("the block is accepted");

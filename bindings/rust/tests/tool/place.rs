@@ -1,6 +1,6 @@
 //! A directory for a test's files, and runs of the tool in it.
 
-use gezdunar::{Grid, ImageSubheader};
+use gezdunar::{Grid, ImageSubheader, Widths};
 use std::path::PathBuf;
 use std::process::{Command, Output, Stdio};
 use std::sync::atomic::{AtomicU32, Ordering};
@@ -96,7 +96,7 @@ pub fn hex(bytes: &[u8]) -> String {
 
 /// The options of a grid by the parts of a subheader, in hexadecimal.
 pub fn parts(subheader: &ImageSubheader) -> String {
-    let (first, second, third) = subheader.to_parts().expect("the subheader is accepted");
+    let (first, second, third) = subheader.to_parts(&Widths::STANDARD).expect("the subheader is accepted");
     let parts = [hex(&first), hex(&second), hex(&third)].join(",");
     format!(" --bands {} --parts {parts} {}", subheader.grid.bands, rule(&subheader.grid))
 }

@@ -2,7 +2,7 @@
 
 use crate::common::{counting, modes_and_rules, samples, small};
 use crate::place::{options, Place};
-use gezdunar::{EdgeRule, Frame, Grid, InterleaveMode};
+use gezdunar::{EdgeRule, Frame, Grid, InterleaveMode, Widths};
 
 const CORNER: &str = "block --image image --row 1 --column 1";
 
@@ -133,7 +133,7 @@ fn numbers_of_every_size_are_printed_and_not_too_many() {
 fn the_lower_right_block_at_12_bits() {
     for (imode, edges) in modes_and_rules() {
         let grid = Grid::new(7, 11, 3, 12, imode, edges, 4, 3);
-        let mut frame = Frame::new(grid).expect("the grid is accepted");
+        let mut frame = Frame::new(grid, Widths::STANDARD).expect("the grid is accepted");
         for (row, column) in crate::common::blocks(&grid) {
             let data = crate::common::block_samples(&grid, &[0, 1, 2], row, column);
             frame.encode_block(row, column, grid.block_shape(row, column), &data).expect("the block is accepted");

@@ -2,7 +2,7 @@
 
 use crate::common::{block_samples, blocks, modes_and_rules, samples, WIDTHS};
 use crate::place::{options, Place};
-use gezdunar::{EdgeRule, Frame, Grid, InterleaveMode};
+use gezdunar::{EdgeRule, Frame, Grid, InterleaveMode, Widths};
 
 /// 7 rows by 11 columns, 3 bands of 12 bits, in blocks of 3 rows by 4 columns.
 fn odd(imode: InterleaveMode, edges: EdgeRule) -> Grid {
@@ -12,7 +12,7 @@ fn odd(imode: InterleaveMode, edges: EdgeRule) -> Grid {
 /// The image of the plain picture.
 fn image(grid: &Grid) -> Vec<u8> {
     let bands: Vec<u32> = (0..grid.bands).collect();
-    let mut frame = Frame::new(*grid).expect("the grid is accepted");
+    let mut frame = Frame::new(*grid, Widths::STANDARD).expect("the grid is accepted");
     for (row, column) in blocks(grid) {
         let data = block_samples(grid, &bands, row, column);
         frame.encode_block(row, column, grid.block_shape(row, column), &data).expect("the block is accepted");

@@ -2,7 +2,9 @@
 
 use crate::common::{counting, small, subheader};
 use crate::place::{hex, options, parts, Place};
-use gezdunar::{mask_write_vec, EdgeRule, Grid, ImageCompression, ImageDataMask, ImageSubheader, InterleaveMode};
+use gezdunar::{
+    mask_write_vec, EdgeRule, Grid, ImageCompression, ImageDataMask, ImageSubheader, InterleaveMode, Widths,
+};
 
 const FIRST: &str = "0000020300000317INTMULTI   MS      12R";
 const THIRD: &str = "P000700040048006412";
@@ -15,7 +17,7 @@ fn written(first: &str, second: &str, third: &str) -> String {
 
 /// A file with the parts of a subheader at bytes 7, 50 and 60.
 fn file(subheader: &ImageSubheader) -> Vec<u8> {
-    let (first, second, third) = subheader.to_parts().expect("the subheader is accepted");
+    let (first, second, third) = subheader.to_parts(&Widths::STANDARD).expect("the subheader is accepted");
     [&[9; 7][..], &first, &[9; 5], &second, &[9; 8], &third, &[9; 3]].concat()
 }
 
@@ -214,7 +216,8 @@ fn each_command_takes_the_grid_from_the_parts() {
     for imode in InterleaveMode::ALL {
         let grid = small(imode);
         let fields = subheader(grid);
-        let table = mask_write_vec(&grid, &ImageDataMask::default(), &[], &[]).expect("the table is accepted");
+        let table = mask_write_vec(&grid, &Widths::STANDARD, &ImageDataMask::default(), &[], &[])
+            .expect("the table is accepted");
         let place = Place::with("image", &counting(64));
         place.put("parts", &file(&fields));
         place.put("table", &table);
@@ -250,7 +253,8 @@ fn the_parts_may_stand_in_the_commands_own_file() {
         assert_eq!(text, place.run(&format!("{command} {place_of_image} {}", options(&grid))).done());
         assert!(text.contains("band 1:\n 49\n"), "{text}");
     }
-    let table = mask_write_vec(&grid, &ImageDataMask::default(), &[], &[]).expect("the table is accepted");
+    let table =
+        mask_write_vec(&grid, &Widths::STANDARD, &ImageDataMask::default(), &[], &[]).expect("the table is accepted");
     place.put("masked", &[&fields, &table[..]].concat());
     let mask = format!("mask --table masked --offset {}", fields.len());
     let text = place.run(&format!("{mask} --bands 2 --part-offsets 7,50,60")).done();
@@ -333,7 +337,8 @@ fn refused_parts_are_told_by_each_command() {
 fn masked_pictures_are_not_read_without_a_word() {
     let grid = small(InterleaveMode::P);
     let masked = parts(&ImageSubheader { ic: ImageCompression::NM, ..subheader(grid) });
-    let table = mask_write_vec(&grid, &ImageDataMask::default(), &[], &[]).expect("the table is accepted");
+    let table =
+        mask_write_vec(&grid, &Widths::STANDARD, &ImageDataMask::default(), &[], &[]).expect("the table is accepted");
     let place = Place::with("image", &counting(64));
     place.put("table", &table);
     let told = "IC of the parts is NM: masked pictures are neither read nor written by this command yet; info, mask";

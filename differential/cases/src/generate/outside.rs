@@ -1,9 +1,9 @@
 //! Cases changed so that they may leave the compared domain: a field of the grid, an argument, the
-//! lengths of the lent buffers, a frame without a start, re-lays in it.
+//! lengths of the lent buffers, the width table, a frame without a start, re-lays and tables in it.
 
-use super::Size;
+use super::{widths, Size};
 use crate::model::layout;
-use crate::{Area, Call, Case, Grid, Header, Lent, Pack, Source};
+use crate::{Area, Call, Case, Grid, Header, Lent, Pack, Source, Widths};
 
 /// Most bytes and words of a frame's lent buffers, and with a long side.
 const MOST: u64 = 4096;
@@ -16,7 +16,23 @@ pub fn changed(mut case: Case, from: &mut Source, size: &Size) -> Case {
     }
     let most = if size.long == 0 { MOST } else { MOST_LONG };
     relays(&mut case, from, most);
-    lent(case, from, most)
+    let nbpp = bits(&case);
+    if let Case::Frame { calls, .. } = &mut case {
+        widths::handed(calls, nbpp, from);
+    }
+    let widths = widths::table(nbpp, from);
+    lent(case, widths, from, most)
+}
+
+/// NBPP of the grid that a case has or names.
+fn bits(case: &Case) -> u32 {
+    match case {
+        Case::ReadSubheader { parts, .. } => {
+            let digit = |&byte: &u8| u32::from(byte.wrapping_sub(b'0'));
+            parts[2].iter().skip(17).fold(0, |number, byte| number * 10 + digit(byte))
+        }
+        case => case.grid().map_or(0, |grid| grid.nbpp),
+    }
 }
 
 /// Up to two re-lays among a frame's calls.
@@ -119,6 +135,7 @@ fn argument(case: &mut Case, from: &mut Source) {
         | Case::ToSequential { data, .. }
         | Case::FromSequential { data, .. }
         | Case::Select { data, .. }
+        | Case::Load { bytes: data }
             if in_data =>
         {
             bytes(data, from);
@@ -153,7 +170,7 @@ fn counted(case: &mut Case, from: &mut Source) {
         Case::ReadSubheader { parts, .. } if in_list => digit(&mut parts[from.below(3) as usize], from),
         Case::ReadSubheader { bands, .. } => replace(from, vec![bands]),
         Case::WriteSubheader { subheader } => replace(from, vec![&mut subheader.abpp]),
-        Case::Parse { .. } | Case::Rewrite { .. } | Case::Lent { .. } => {}
+        Case::Parse { .. } | Case::Rewrite { .. } | Case::Load { .. } | Case::Lent { .. } => {}
     }
 }
 
@@ -196,8 +213,8 @@ fn length(from: &mut Source, exact: u64) -> u64 {
     }
 }
 
-fn lent(case: Case, from: &mut Source, most: u64) -> Case {
-    let exact = Lent::of(&case);
+fn lent(case: Case, widths: Widths, from: &mut Source, most: u64) -> Case {
+    let exact = Lent { widths, ..Lent::of(&case) };
     let lent = match case {
         Case::Frame { .. } => {
             let image = length(from, exact.image.min(most));
@@ -209,6 +226,7 @@ fn lent(case: Case, from: &mut Source, most: u64) -> Case {
         | Case::Parse { .. }
         | Case::Rewrite { .. }
         | Case::Lookup { .. }
+        | Case::Load { .. }
         | Case::ReadSubheader { .. } => exact,
         _ => Lent { output: length(from, exact.output), ..exact },
     };

@@ -1,7 +1,7 @@
 //! Image subheaders.
 
 use crate::model::subheader;
-use crate::{Case, Compression, Grid, Justification, Lent, PixelValue, Source, Subheader};
+use crate::{Case, Compression, Grid, Justification, Lent, PixelValue, Source, Subheader, Widths};
 
 /// Any named values, with IREP and ICAT of any bytes.
 fn fields(grid: Grid, from: &mut Source) -> Subheader {
@@ -25,7 +25,7 @@ pub fn read(grid: Grid, from: &mut Source) -> Case {
     let case = write(grid, from);
     let Case::WriteSubheader { subheader } = &case else { unreachable!("a write") };
     let mut parts = Lent::of(&case).parts();
-    assert_eq!(subheader::write(subheader, &mut parts), 0, "a grid of the compared domain");
+    assert_eq!(subheader::write(subheader, &Widths::STANDARD, &mut parts), 0, "a grid of the compared domain");
     for (blocks, at) in [(grid.nbpr, 9), (grid.nbpc, 13)] {
         if blocks == 1 && from.below(2) == 1 {
             parts[2][at..at + 4].fill(b'0');

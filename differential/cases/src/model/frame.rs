@@ -1,7 +1,7 @@
 //! Start, write, skip, progress, finish and re-lay, on a lent image and lent mark words.
 
 use super::{bits, layout, questions};
-use crate::{Edges, Grid};
+use crate::{Edges, Grid, Widths};
 
 fn marked(marks: &[u64], i: u64) -> bool {
     marks[(i / 64) as usize] >> (i % 64) & 1 == 1
@@ -12,8 +12,8 @@ fn set_mark(marks: &mut [u64], i: u64) {
 }
 
 /// Questions 1 to 4, 11 and 12.
-fn buffers(g: &Grid, image: &[u8], marks: &[u64]) -> u8 {
-    let number = questions::grid(g);
+fn buffers(g: &Grid, widths: &Widths, image: &[u8], marks: &[u64]) -> u8 {
+    let number = questions::grid(g, widths);
     if number != 0 {
         return number;
     }
@@ -26,8 +26,8 @@ fn buffers(g: &Grid, image: &[u8], marks: &[u64]) -> u8 {
     0
 }
 
-pub fn start(g: &Grid, image: &mut [u8], marks: &mut [u64]) -> u8 {
-    let number = buffers(g, image, marks);
+pub fn start(g: &Grid, widths: &Widths, image: &mut [u8], marks: &mut [u64]) -> u8 {
+    let number = buffers(g, widths, image, marks);
     if number == 0 {
         image[..layout::image_bytes(g) as usize].fill(0);
         marks[..questions::mark_words(g) as usize].fill(0);
@@ -44,12 +44,13 @@ fn samples_fit(g: &Grid, data: &[u8]) -> bool {
 /// The questions of a write.
 fn write_number(
     g: &Grid,
+    widths: &Widths,
     (image, marks): (&[u8], &[u64]),
     (row, column): (u32, u32),
     shape: [u32; 3],
     data: &[u8],
 ) -> u8 {
-    let number = buffers(g, image, marks);
+    let number = buffers(g, widths, image, marks);
     if number != 0 {
         return number;
     }
@@ -71,13 +72,14 @@ fn write_number(
 
 pub fn write(
     g: &Grid,
+    widths: &Widths,
     image: &mut [u8],
     marks: &mut [u64],
     (row, column): (u32, u32),
     shape: [u32; 3],
     data: &[u8],
 ) -> u8 {
-    let number = write_number(g, (image, marks), (row, column), shape, data);
+    let number = write_number(g, widths, (image, marks), (row, column), shape, data);
     if number != 0 {
         return number;
     }
@@ -103,8 +105,8 @@ pub fn write(
     0
 }
 
-pub fn skip(g: &Grid, image: &[u8], marks: &mut [u64], (row, column): (u32, u32)) -> u8 {
-    let number = buffers(g, image, marks);
+pub fn skip(g: &Grid, widths: &Widths, image: &[u8], marks: &mut [u64], (row, column): (u32, u32)) -> u8 {
+    let number = buffers(g, widths, image, marks);
     if number != 0 {
         return number;
     }
@@ -116,8 +118,8 @@ pub fn skip(g: &Grid, image: &[u8], marks: &mut [u64], (row, column): (u32, u32)
 }
 
 /// The number, and the count of marked blocks.
-pub fn progress(g: &Grid, marks: &[u64]) -> (u8, u64) {
-    let number = questions::grid(g);
+pub fn progress(g: &Grid, widths: &Widths, marks: &[u64]) -> (u8, u64) {
+    let number = questions::grid(g, widths);
     if number != 0 {
         return (number, 0);
     }
@@ -128,8 +130,8 @@ pub fn progress(g: &Grid, marks: &[u64]) -> (u8, u64) {
 }
 
 /// The number, and for 15 the block's row and column.
-pub fn finish(g: &Grid, image: &[u8], marks: &[u64]) -> (u8, u32, u32) {
-    let number = buffers(g, image, marks);
+pub fn finish(g: &Grid, widths: &Widths, image: &[u8], marks: &[u64]) -> (u8, u32, u32) {
+    let number = buffers(g, widths, image, marks);
     if number != 0 {
         return (number, 0, 0);
     }
@@ -139,8 +141,8 @@ pub fn finish(g: &Grid, image: &[u8], marks: &[u64]) -> (u8, u32, u32) {
 
 /// The number, and the grid in force after it. Of another width than a byte multiple the whole image is cleared, and
 /// every sample of the picture put where full has it.
-pub fn relay(g: &Grid, image: &mut [u8], marks: &[u64], scratch: &mut [u8]) -> (u8, Grid) {
-    let number = buffers(g, image, marks);
+pub fn relay(g: &Grid, widths: &Widths, image: &mut [u8], marks: &[u64], scratch: &mut [u8]) -> (u8, Grid) {
+    let number = buffers(g, widths, image, marks);
     if number != 0 {
         return (number, *g);
     }

@@ -1,7 +1,7 @@
 //! The image data mask table.
 
 use super::{bits, layout, questions};
-use crate::{Grid, Header, Mode};
+use crate::{Grid, Header, Mode, Widths};
 
 const EMPTY: u32 = 0xffff_ffff;
 
@@ -35,9 +35,9 @@ fn lengths(h: &Header) -> u8 {
 }
 
 /// The number, the header and the count of bytes used.
-pub fn parse(g: &Grid, table: &[u8]) -> (u8, Header, u64) {
+pub fn parse(g: &Grid, widths: &Widths, table: &[u8]) -> (u8, Header, u64) {
     let refused = |number| (number, Header::default(), 0);
-    let number = questions::grid(g);
+    let number = questions::grid(g, widths);
     if number != 0 {
         return refused(number);
     }
@@ -64,8 +64,8 @@ pub fn parse(g: &Grid, table: &[u8]) -> (u8, Header, u64) {
 }
 
 /// The number, and the bytes of the table written.
-pub fn write(g: &Grid, h: &Header, blocks: &[u32], pads: &[u32], out: &mut [u8]) -> (u8, u64) {
-    let number = write_number(g, h, blocks, pads, out);
+pub fn write(g: &Grid, widths: &Widths, h: &Header, blocks: &[u32], pads: &[u32], out: &mut [u8]) -> (u8, u64) {
+    let number = write_number(g, widths, h, blocks, pads, out);
     if number != 0 {
         return (number, 0);
     }
@@ -83,8 +83,8 @@ pub fn write(g: &Grid, h: &Header, blocks: &[u32], pads: &[u32], out: &mut [u8])
     (0, size)
 }
 
-fn write_number(g: &Grid, h: &Header, blocks: &[u32], pads: &[u32], out: &[u8]) -> u8 {
-    let number = questions::grid(g);
+fn write_number(g: &Grid, widths: &Widths, h: &Header, blocks: &[u32], pads: &[u32], out: &[u8]) -> u8 {
+    let number = questions::grid(g, widths);
     if number != 0 {
         return number;
     }
@@ -109,8 +109,14 @@ fn write_number(g: &Grid, h: &Header, blocks: &[u32], pads: &[u32], out: &[u8]) 
 }
 
 /// The number, whether the block is present, and its offset if it has one.
-pub fn lookup(g: &Grid, table: &[u8], (row, column): (u32, u32), band: u32) -> (u8, bool, Option<u32>) {
-    let (number, header, _) = parse(g, table);
+pub fn lookup(
+    g: &Grid,
+    widths: &Widths,
+    table: &[u8],
+    (row, column): (u32, u32),
+    band: u32,
+) -> (u8, bool, Option<u32>) {
+    let (number, header, _) = parse(g, widths, table);
     if number != 0 {
         return (number, false, None);
     }
@@ -134,8 +140,8 @@ pub fn lookup(g: &Grid, table: &[u8], (row, column): (u32, u32), band: u32) -> (
 }
 
 /// The number, and the header; IMDATOFF is left 0.
-pub fn from_marks(g: &Grid, marks: &[u64], out: &mut [u32]) -> (u8, Header) {
-    let number = questions::grid(g);
+pub fn from_marks(g: &Grid, widths: &Widths, marks: &[u64], out: &mut [u32]) -> (u8, Header) {
+    let number = questions::grid(g, widths);
     if number != 0 {
         return (number, Header::default());
     }

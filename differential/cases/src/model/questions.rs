@@ -1,19 +1,19 @@
 //! The questions that more than one call asks.
 
 use super::layout;
-use crate::{Grid, BLOCK_SIDE};
+use crate::{Grid, Widths, BLOCK_SIDE};
 
 /// Question 1 of a side of the picture and of the same side of a block, which may be longer if it is the picture's.
 fn sides(picture: u32, block: u32) -> bool {
     (1..=99_999_999).contains(&picture) && ((1..=BLOCK_SIDE).contains(&block) || block == picture)
 }
 
-/// Questions 1 to 4.
-pub fn grid(g: &Grid) -> u8 {
+/// Questions 1 to 4, with a width table.
+pub fn grid(g: &Grid, widths: &Widths) -> u8 {
     if !(sides(g.nrows, g.nppbv) && sides(g.ncols, g.nppbh) && (1..=99_999).contains(&g.bands)) {
         return 1;
     }
-    if !matches!(g.nbpp, 1..=16 | 24..=32 | 40 | 48 | 56 | 64) {
+    if !widths.takes(g.nbpp) {
         return 2;
     }
     if g.nbpr != g.ncols.div_ceil(g.nppbh) || g.nbpc != g.nrows.div_ceil(g.nppbv) || g.nbpr > 9_999 || g.nbpc > 9_999 {

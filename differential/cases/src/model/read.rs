@@ -1,7 +1,7 @@
 //! Block read, whole block and window.
 
 use super::{bits, layout, questions};
-use crate::{Area, Grid, Mode};
+use crate::{Area, Grid, Mode, Widths};
 
 /// The bands asked for, in order.
 fn chosen(bands: u32, list: Option<&[u32]>) -> Vec<u32> {
@@ -29,13 +29,14 @@ fn put_sample(g: &Grid, out: &mut [u8], at: u64, value: u64) {
 /// The number, and the shape of the answer.
 pub fn block(
     g: &Grid,
+    widths: &Widths,
     image: &[u8],
     (row, column): (u32, u32),
     level: u32,
     list: Option<&[u32]>,
     out: &mut [u8],
 ) -> (u8, [u64; 3]) {
-    let number = block_number(g, image, (row, column), level, list, out);
+    let number = block_number(g, widths, image, (row, column), level, list, out);
     if number != 0 {
         return (number, [0; 3]);
     }
@@ -54,8 +55,16 @@ pub fn block(
     (0, [bands.len() as u64, rows, columns])
 }
 
-fn block_number(g: &Grid, image: &[u8], (row, column): (u32, u32), level: u32, list: Option<&[u32]>, out: &[u8]) -> u8 {
-    let number = questions::grid(g);
+fn block_number(
+    g: &Grid,
+    widths: &Widths,
+    image: &[u8],
+    (row, column): (u32, u32),
+    level: u32,
+    list: Option<&[u32]>,
+    out: &[u8],
+) -> u8 {
+    let number = questions::grid(g, widths);
     if number != 0 {
         return number;
     }
@@ -73,8 +82,8 @@ fn block_number(g: &Grid, image: &[u8], (row, column): (u32, u32), level: u32, l
 }
 
 /// The number, and the part of the image.
-pub fn whole<'a>(g: &Grid, image: &'a [u8], (row, column): (u32, u32)) -> (u8, &'a [u8]) {
-    let number = questions::grid(g);
+pub fn whole<'a>(g: &Grid, widths: &Widths, image: &'a [u8], (row, column): (u32, u32)) -> (u8, &'a [u8]) {
+    let number = questions::grid(g, widths);
     if number != 0 {
         return (number, &[]);
     }
@@ -92,8 +101,8 @@ pub fn whole<'a>(g: &Grid, image: &'a [u8], (row, column): (u32, u32)) -> (u8, &
     (0, &image[start as usize..end as usize])
 }
 
-pub fn window(g: &Grid, image: &[u8], area: Area, list: Option<&[u32]>, out: &mut [u8]) -> u8 {
-    let number = window_number(g, image, area, list, out);
+pub fn window(g: &Grid, widths: &Widths, image: &[u8], area: Area, list: Option<&[u32]>, out: &mut [u8]) -> u8 {
+    let number = window_number(g, widths, image, area, list, out);
     if number != 0 {
         return number;
     }
@@ -112,8 +121,8 @@ pub fn window(g: &Grid, image: &[u8], area: Area, list: Option<&[u32]>, out: &mu
     0
 }
 
-fn window_number(g: &Grid, image: &[u8], area: Area, list: Option<&[u32]>, out: &[u8]) -> u8 {
-    let number = questions::grid(g);
+fn window_number(g: &Grid, widths: &Widths, image: &[u8], area: Area, list: Option<&[u32]>, out: &[u8]) -> u8 {
+    let number = questions::grid(g, widths);
     if number != 0 {
         return number;
     }

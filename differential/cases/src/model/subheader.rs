@@ -1,7 +1,7 @@
 //! Three parts of an image subheader, read and written: document 02's words, with the fields of MIL-STD-2500C.
 
 use super::questions;
-use crate::{Compression, Edges, Grid, Justification, Mode, PixelValue, Subheader, BLOCK_SIDE};
+use crate::{Compression, Edges, Grid, Justification, Mode, PixelValue, Subheader, Widths, BLOCK_SIDE};
 
 /// The bytes of each field: NROWS, NCOLS, PVTYPE, IREP, ICAT, ABPP, PJUST.
 const FIRST: [usize; 7] = [8, 8, 3, 8, 8, 2, 1];
@@ -49,7 +49,7 @@ fn meant(side: u32, blocks: u32, picture: u32) -> u32 {
 }
 
 /// The fields, or the number. The parts hold neither the count of bands nor the edge rule.
-pub fn read([first, second, third]: [&[u8]; 3], bands: u32, edges: Edges) -> Result<Subheader, u8> {
+pub fn read([first, second, third]: [&[u8]; 3], bands: u32, edges: Edges, widths: &Widths) -> Result<Subheader, u8> {
     let [nrows, ncols, pvtype, irep, icat, abpp, pjust] = fields(first, FIRST)?;
     let [ic] = fields(second, SECOND)?;
     let [imode, nbpr, nbpc, nppbh, nppbv, nbpp] = fields(third, THIRD)?;
@@ -65,7 +65,7 @@ pub fn read([first, second, third]: [&[u8]; 3], bands: u32, edges: Edges) -> Res
     let (nppbh, nppbv) = (meant(nppbh, nbpr, ncols), meant(nppbv, nbpc, nrows));
     let grid = Grid { nrows, ncols, bands, nbpp, mode, edges, nppbh, nppbv, nbpr, nbpc };
     let unread = |field: &[u8]| field.try_into().expect("a field of 8 bytes");
-    match questions::grid(&grid) {
+    match questions::grid(&grid, widths) {
         0 => Ok(Subheader { pvtype, irep: unread(irep), icat: unread(icat), abpp, pjust, ic, grid }),
         number => Err(number),
     }
@@ -87,11 +87,11 @@ fn parts(s: &Subheader) -> [Vec<u8>; 3] {
 }
 
 /// The number; an accepted call puts each part at the front of its output.
-pub fn write(s: &Subheader, outputs: &mut [Vec<u8>; 3]) -> u8 {
+pub fn write(s: &Subheader, widths: &Widths, outputs: &mut [Vec<u8>; 3]) -> u8 {
     if s.abpp > 99 {
         return 24;
     }
-    let number = questions::grid(&s.grid);
+    let number = questions::grid(&s.grid, widths);
     if number != 0 {
         return number;
     }

@@ -16,6 +16,7 @@ mod picture;
 mod preview;
 mod progress;
 mod streams;
+mod widths;
 mod words;
 
 use arguments::Given;

@@ -3,6 +3,7 @@
 use crate::arguments::{missing_one, offsets, optional, Given, Known};
 use crate::failure::Failure;
 use crate::files;
+use crate::widths::Table;
 use gezdunar::{
     EdgeRule, ImageCompression, ImageSubheader, InterleaveMode, PixelJustification, PixelValueType, Refusal,
 };
@@ -92,11 +93,14 @@ impl Parts {
         }
     }
 
-    /// The fields, for a picture of so many bands under an edge rule.
-    pub fn subheader(&self, bands: u32, edges: EdgeRule) -> Result<ImageSubheader, Failure> {
+    /// The fields, for a picture of so many bands under an edge rule, with a width table.
+    pub fn subheader(&self, bands: u32, edges: EdgeRule, table: &Table) -> Result<ImageSubheader, Failure> {
         let [first, second, third] = &self.bytes;
-        ImageSubheader::read(first, second, third, bands, edges)
-            .map_err(|refusal| Failure::Refused(refusal, format!("{}{}", self.source, self.facts(refusal, bands))))
+        ImageSubheader::read(first, second, third, bands, edges, &table.widths).map_err(|refusal| {
+            let nbpp = self.text(&NBPP).parse().unwrap_or(0);
+            let facts = self.facts(refusal, bands) + &table.facts(refusal, nbpp);
+            Failure::Refused(refusal, format!("{}{facts}", self.source))
+        })
     }
 
     /// A block's side as it is meant, and that it stands as zero where it does.

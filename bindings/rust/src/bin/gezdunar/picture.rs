@@ -4,8 +4,9 @@ use crate::arguments::{required, Given, Known};
 use crate::edges::{self, Edges};
 use crate::failure::Failure;
 use crate::parts::{self, Parts};
+use crate::widths::Table;
 use crate::words::count;
-use gezdunar::{EdgeRule, Grid, ImageCompression, InterleaveMode, Refusal, Sizes};
+use gezdunar::{EdgeRule, Grid, ImageCompression, InterleaveMode, Refusal, Sizes, Widths};
 
 /// The options of a grid.
 pub const OPTIONS: [Known; 7] = [
@@ -42,6 +43,8 @@ cases the edge rule):
 pub struct Picture {
     /// The grid.
     pub grid: Grid,
+    /// The width table that it was accepted with.
+    pub widths: Widths,
     /// Its sizes.
     pub sizes: Sizes,
     /// Do the parts say that it is masked?
@@ -52,15 +55,17 @@ impl Picture {
     /// The grid that the options give, or the parts that they name.
     pub fn new(given: &Given) -> Result<Picture, Failure> {
         let edges = Edges::new(given)?;
+        let table = Table::new(given)?;
         let (grid, masked) = if parts::NAMES.iter().any(|name| given.has(name)) {
-            let subheader = Parts::new(given)?.subheader(given.number("--bands")?, edges.rule())?;
+            let subheader = Parts::new(given)?.subheader(given.number("--bands")?, edges.rule(), &table)?;
             (subheader.grid, subheader.ic == ImageCompression::NM)
         } else {
             (grid(given, edges.rule())?, false)
         };
-        let sizes = grid.sizes().map_err(|refusal| Failure::Refused(refusal, fields(&grid)))?;
+        let refused = |refusal| Failure::Refused(refusal, fields(&grid) + &table.facts(refusal, grid.nbpp));
+        let sizes = grid.sizes(&table.widths).map_err(refused)?;
         edges.check(grid.nbpp)?;
-        Ok(Picture { grid, sizes, masked })
+        Ok(Picture { grid, widths: table.widths, sizes, masked })
     }
 
     /// The same for a command that takes an image: a masked picture's blocks do not lie where the grid has them.

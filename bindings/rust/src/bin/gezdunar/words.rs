@@ -9,7 +9,7 @@ pub fn question(number: u32) -> &'static str {
             "Are NROWS and NCOLS 1 to 99,999,999, NPPBH 1 to 8,192 or NCOLS, NPPBV 1 to 8,192 or NROWS, \
              bands 1 to 99,999?"
         }
-        2 => "Is NBPP 1 to 16, 24 to 32, 40, 48, 56 or 64?",
+        2 => "Is NBPP 1 to 16, 24 to 32, 40, 48, 56 or 64, and not barred by the width table?",
         3 => "Is NBPR = NCOLS / NPPBH and NBPC = NROWS / NPPBV, both rounded up and at most 9,999?",
         4 => "Is the image at most 4,294,967,294 bytes?",
         5 => "Is the resolution level 0?",
@@ -40,6 +40,10 @@ pub fn question(number: u32) -> &'static str {
         }
         26 => "Is every bit above NBPP zero in each sample?",
         27 => "Is the edge rule still tight?",
+        33 => {
+            "Has the width table 68 bytes: the length 66, version 1, and for each NBPP from 0 to 64 the bytes of a \
+             sample, or 0?"
+        }
         99 => "Is the mode B, P, R or S, and the edge rule T or F?",
         _ => "Not known to this tool.",
     }

@@ -8,13 +8,22 @@ use crate::failure::Failure;
 use crate::image::{self, Image};
 use crate::parts;
 use crate::picture::{self, Picture};
+use crate::widths;
 use gezdunar::decode_block_vec;
 
 pub const COMMAND: Command = Command {
     name: "block",
     summary: "reads one block of an image",
-    help: &[HEAD, picture::HELP, edges::HELP, parts::HELP, image::HELP, answer::HELP, EXAMPLE],
-    options: &[&OPTIONS, &picture::OPTIONS, &edges::OPTIONS, &parts::OPTIONS, &image::OPTIONS, &answer::OPTIONS],
+    help: &[HEAD, picture::HELP, edges::HELP, widths::HELP, parts::HELP, image::HELP, answer::HELP, EXAMPLE],
+    options: &[
+        &OPTIONS,
+        &picture::OPTIONS,
+        &edges::OPTIONS,
+        &widths::OPTIONS,
+        &parts::OPTIONS,
+        &image::OPTIONS,
+        &answer::OPTIONS,
+    ],
     run,
 };
 
@@ -47,7 +56,7 @@ fn run(given: &Given) -> Result<(), Failure> {
     let image = Image::new(given)?;
     let answer = Answer::new(given, &picture)?;
     let bytes = image.read(&picture, row, column)?;
-    match decode_block_vec(&bytes, &picture.grid, row, column, 0, answer.list.bands()) {
+    match decode_block_vec(&bytes, &picture.grid, &picture.widths, row, column, 0, answer.list.bands()) {
         Ok((shape, samples)) => answer.give(&picture, shape, &samples),
         Err(refusal) => {
             let asked = format!("asked for: block row {row}, block column {column}");

@@ -7,13 +7,14 @@ use crate::failure::Failure;
 use crate::parts;
 use crate::picture::{self, Picture};
 use crate::streams;
+use crate::widths;
 use crate::words::{lines, mode};
 
 pub const COMMAND: Command = Command {
     name: "info",
     summary: "shows the blocks and bytes of a grid",
-    help: &[HEAD, picture::HELP, edges::HELP, parts::HELP, EXAMPLE],
-    options: &[&picture::OPTIONS, &edges::OPTIONS, &parts::OPTIONS],
+    help: &[HEAD, picture::HELP, edges::HELP, widths::HELP, parts::HELP, EXAMPLE],
+    options: &[&picture::OPTIONS, &edges::OPTIONS, &widths::OPTIONS, &parts::OPTIONS],
     run,
 };
 

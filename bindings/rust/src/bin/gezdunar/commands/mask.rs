@@ -6,15 +6,15 @@ use crate::edges;
 use crate::failure::Failure;
 use crate::parts;
 use crate::picture::{self, Picture};
-use crate::{files, streams};
+use crate::{files, streams, widths};
 use gezdunar::{get_block_offset, has_block, mask_parse, InterleaveMode, Parsed, Refusal};
 use std::path::Path;
 
 pub const COMMAND: Command = Command {
     name: "mask",
     summary: "shows an image data mask table",
-    help: &[HEAD, picture::HELP, edges::HELP, parts::HELP, EXAMPLE],
-    options: &[&OPTIONS, &picture::OPTIONS, &edges::OPTIONS, &parts::OPTIONS],
+    help: &[HEAD, picture::HELP, edges::HELP, widths::HELP, parts::HELP, EXAMPLE],
+    options: &[&OPTIONS, &picture::OPTIONS, &edges::OPTIONS, &widths::OPTIONS, &parts::OPTIONS],
     run,
 };
 
@@ -52,7 +52,7 @@ fn run(given: &Given) -> Result<(), Failure> {
     let picture = Picture::new(given)?;
     let path = Path::new(given.needed("--table")?);
     let table = Table::read(&picture, path, given.bytes("--offset", 0)?)?;
-    let parsed = mask_parse(&table.bytes, &picture.grid).map_err(|refusal| table.refused(refusal))?;
+    let parsed = mask_parse(&table.bytes, &picture.grid, &picture.widths).map_err(|refusal| table.refused(refusal))?;
     streams::print(&header(&parsed))?;
     for band in 0..maps(&picture) {
         if picture.grid.imode == InterleaveMode::S {
@@ -131,8 +131,8 @@ impl<'a> Table<'a> {
 
     /// A mark for each block of a row of blocks.
     fn line(&self, row: u32, band: u32) -> Result<String, Failure> {
-        let grid = &self.picture.grid;
-        let present = |column| has_block(&self.bytes, grid, row, column, band);
+        let Picture { grid, widths, .. } = self.picture;
+        let present = |column| has_block(&self.bytes, grid, widths, row, column, band);
         let mark = |column| present(column).map(|present| if present { '#' } else { '.' });
         (0..grid.nbpr).map(mark).collect::<Result<String, Refusal>>().map_err(|refusal| self.refused(refusal))
     }
@@ -150,11 +150,11 @@ impl<'a> Table<'a> {
 
     /// A block's record in words.
     fn record(&self, row: u32, column: u32, band: u32) -> Result<String, Refusal> {
-        let grid = &self.picture.grid;
-        let offset = get_block_offset(&self.bytes, grid, row, column, band)?;
+        let Picture { grid, widths, .. } = self.picture;
+        let offset = get_block_offset(&self.bytes, grid, widths, row, column, band)?;
         let what = match offset {
             Some(offset) => format!("offset {offset}"),
-            None if has_block(&self.bytes, grid, row, column, band)? => "present, no record".to_owned(),
+            None if has_block(&self.bytes, grid, widths, row, column, band)? => "present, no record".to_owned(),
             None => "empty".to_owned(),
         };
         Ok(format!("block row {row}, block column {column}: {what}\n"))

@@ -10,6 +10,7 @@ use crate::parts;
 use crate::picture::{self, Picture};
 use crate::preview::number;
 use crate::progress::Progress;
+use crate::widths;
 use crate::words::count;
 use gezdunar::{Frame, Refusal, Shape};
 use std::collections::BTreeSet;
@@ -20,8 +21,8 @@ use std::path::{Path, PathBuf};
 pub const COMMAND: Command = Command {
     name: "pack",
     summary: "writes a picture's samples into a blocked image",
-    help: &[HEAD, picture::HELP, edges::HELP, parts::HELP, TAIL],
-    options: &[&OPTIONS, &picture::OPTIONS, &edges::OPTIONS, &parts::OPTIONS],
+    help: &[HEAD, picture::HELP, edges::HELP, widths::HELP, parts::HELP, TAIL],
+    options: &[&OPTIONS, &picture::OPTIONS, &edges::OPTIONS, &widths::OPTIONS, &parts::OPTIONS],
     run,
 };
 
@@ -82,7 +83,7 @@ fn run(given: &Given) -> Result<(), Failure> {
 /// A frame in which the skipped blocks are marked.
 fn started(picture: &Picture, skipped: &BTreeSet<(u32, u32)>) -> Result<Frame, Failure> {
     let image = format!("the image takes {} bytes", picture.sizes.image_bytes);
-    let mut frame = Frame::new(picture.grid).map_err(|refusal| picture.refused(refusal, &image))?;
+    let mut frame = Frame::new(picture.grid, picture.widths).map_err(|refusal| picture.refused(refusal, &image))?;
     for (row, column) in skipped {
         let asked = format!("--skip {row},{column}");
         frame.skip_block(*row, *column).map_err(|refusal| picture.refused(refusal, &asked))?;

@@ -9,14 +9,15 @@ use crate::image::Image;
 use crate::output::Output;
 use crate::parts;
 use crate::picture::{self, Picture};
+use crate::widths;
 use crate::words::count;
 use gezdunar::{relay, Refusal};
 
 pub const COMMAND: Command = Command {
     name: "relay",
     summary: "lays an image's blocks anew, from tight edge blocks to full",
-    help: &[HEAD, picture::HELP, edges::HELP, parts::HELP, EXAMPLE],
-    options: &[&OPTIONS, &picture::OPTIONS, &edges::OPTIONS, &parts::OPTIONS],
+    help: &[HEAD, picture::HELP, edges::HELP, widths::HELP, parts::HELP, EXAMPLE],
+    options: &[&OPTIONS, &picture::OPTIONS, &edges::OPTIONS, &widths::OPTIONS, &parts::OPTIONS],
     run,
 };
 
@@ -60,10 +61,13 @@ fn run(given: &Given) -> Result<(), Failure> {
     let held = place.len();
     let marks: Vec<u64> = files::zeros(picture.sizes.mark_words)?;
     let mut scratch: Vec<u8> = files::zeros(picture.sizes.block_bytes)?;
-    let grid = relay(&mut bytes[place], &marks, &picture.grid, &mut scratch).map_err(|refusal| match refusal {
-        Refusal::ImageTooShort => Failure::Refused(refusal, image.held(&picture, held)),
-        _ => picture.refused(refusal, &format!("--edges {}", picture.grid.edges)),
-    })?;
+    let grid =
+        relay(&mut bytes[place], &marks, &picture.grid, &picture.widths, &mut scratch).map_err(
+            |refusal| match refusal {
+                Refusal::ImageTooShort => Failure::Refused(refusal, image.held(&picture, held)),
+                _ => picture.refused(refusal, &format!("--edges {}", picture.grid.edges)),
+            },
+        )?;
     output.write(&[&bytes])?;
     let laid = Picture { grid, ..picture };
     output.tell(&format!("{}: {} laid anew", laid.words(), count(laid.sizes.blocks, "block")))

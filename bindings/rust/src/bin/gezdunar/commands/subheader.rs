@@ -6,14 +6,15 @@ use crate::edges::{self, Edges};
 use crate::failure::Failure;
 use crate::parts::{self, Parts, NPPBH, NPPBV};
 use crate::streams;
+use crate::widths::{self, Table};
 use crate::words::{lines, mode};
 use gezdunar::{ImageCompression, ImageSubheader, PixelJustification, PixelValueType};
 
 pub const COMMAND: Command = Command {
     name: "subheader",
     summary: "shows the fields of three parts of an image subheader",
-    help: &[HEAD, edges::HELP, parts::HELP, EXAMPLE],
-    options: &[&OPTIONS, &edges::OPTIONS, &parts::OPTIONS],
+    help: &[HEAD, edges::HELP, widths::HELP, parts::HELP, EXAMPLE],
+    options: &[&OPTIONS, &edges::OPTIONS, &widths::OPTIONS, &parts::OPTIONS],
     run,
 };
 
@@ -38,8 +39,8 @@ example, the parts one after the other in a file:
 ";
 
 fn run(given: &Given) -> Result<(), Failure> {
-    let (edges, parts) = (Edges::new(given)?, Parts::new(given)?);
-    let subheader = parts.subheader(given.number("--bands")?, edges.rule())?;
+    let (edges, table, parts) = (Edges::new(given)?, Table::new(given)?, Parts::new(given)?);
+    let subheader = parts.subheader(given.number("--bands")?, edges.rule(), &table)?;
     edges.check(subheader.grid.nbpp)?;
     let rule = edges::fact(&subheader.grid);
     streams::print(&lines(first(&subheader).into_iter().chain(rest(&subheader, &parts)).chain(rule)))

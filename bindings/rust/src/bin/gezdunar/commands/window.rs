@@ -8,13 +8,22 @@ use crate::failure::Failure;
 use crate::image::{self, Image};
 use crate::parts;
 use crate::picture::{self, Picture};
+use crate::widths;
 use gezdunar::{read_window_vec, Window};
 
 pub const COMMAND: Command = Command {
     name: "window",
     summary: "reads a rectangle of the picture, across blocks",
-    help: &[HEAD, picture::HELP, edges::HELP, parts::HELP, image::HELP, answer::HELP, EXAMPLE],
-    options: &[&OPTIONS, &picture::OPTIONS, &edges::OPTIONS, &parts::OPTIONS, &image::OPTIONS, &answer::OPTIONS],
+    help: &[HEAD, picture::HELP, edges::HELP, widths::HELP, parts::HELP, image::HELP, answer::HELP, EXAMPLE],
+    options: &[
+        &OPTIONS,
+        &picture::OPTIONS,
+        &edges::OPTIONS,
+        &widths::OPTIONS,
+        &parts::OPTIONS,
+        &image::OPTIONS,
+        &answer::OPTIONS,
+    ],
     run,
 };
 
@@ -52,7 +61,7 @@ fn run(given: &Given) -> Result<(), Failure> {
     let block_row = last(window.row, window.rows) / picture.grid.nppbv;
     let block_col = last(window.column, window.columns) / picture.grid.nppbh;
     let bytes = image.read(&picture, block_row, block_col)?;
-    match read_window_vec(&bytes, &picture.grid, window, answer.list.bands()) {
+    match read_window_vec(&bytes, &picture.grid, &picture.widths, window, answer.list.bands()) {
         Ok((shape, samples)) => answer.give(&picture, shape, &samples),
         Err(refusal) => Err(image.refused(&picture, refusal, bytes.len(), &asked(window))),
     }
