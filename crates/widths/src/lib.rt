@@ -66,7 +66,7 @@ impl Widths {
     pub fn new(entries: &[u8]) -> Self
         ensures { result ≡ table_of entries.now }
     {
-        // Of a length that is known: with the other copy a parse of a mask table takes 41 ns in the place of 34.
+        // A copy whose length the compiler knows: it is a few moves, where the other one is a call.
         if entries.len() >= 65 {
             return Self {
                 entries: entries[..65].try_into().unwrap(),
