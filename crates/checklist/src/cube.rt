@@ -1,5 +1,5 @@
 // The cube: sample (band, row, column) is band * 256 + row * 16 + column.
-ghost use Rattle.std.specs.Prelude.{◌+◌, ◌*◌, ◌≤◌};
+ghost use Rattle.std.specs.Prelude.{◌+◌, ◌*◌, ◌<◌, ◌≤◌};
 
 use calls::Extent;
 use grid::{EdgeRule, Grid};
@@ -18,10 +18,14 @@ struct Block {
     rows: u16,
     columns: u16,
     ghost inside: { (top + rows ≤ 5) × (left + columns ≤ 7) },
+    ghost some: { (0 < rows) × (0 < columns) },
+    ghost within: { (rows ≤ 3) × (columns ≤ 4) },
     ghost few: { rows * columns ≤ 12 },
 }
 
-fn block_at(row: u32, column: u32) -> Block {
+fn block_at(row: u32, column: u32) -> Block
+    ensures { (0 < result.rows) × (0 < result.columns) × (result.rows ≤ 3) × (result.columns ≤ 4) }
+{
     let (top, rows) = if row == 0 { (0, 3) } else { (3, 2) };
     let (left, columns) = if column == 0 { (0, 4) } else { (4, 3) };
     Block {
@@ -32,7 +36,22 @@ fn block_at(row: u32, column: u32) -> Block {
     }
 }
 
+// Sample (band, row, column) of the cube, in 12 bits.
+fn value(band: u16, row: u16, column: u16) -> u16
+    requires { (band < 3) × (row < 5) × (column < 7) }
+    ensures { result < 4096 }
+{
+    band * 256 + row * 16 + column
+}
+
 impl Block {
+    // Bytes of its data: 3 bands, 2 bytes a sample.
+    fn data_bytes(self) -> usize
+        ensures { result ≤ 72 }
+    {
+        6 * (self.rows as usize * self.columns as usize)
+    }
+
     // Its samples, band by band and row by row, each in two bytes.
     fn samples(self) -> [u8; 72] {
         let mut bytes = [0u8; 72];
@@ -42,7 +61,7 @@ impl Block {
             for row in self.top..self.top + self.rows {
                 for column in self.left..self.left + self.columns {
                     if let Some(cell) = cells.next() {
-                        *cell = (band * 256 + row * 16 + column).to_be_bytes();
+                        *cell = value(band, row, column).to_be_bytes();
                     }
                 }
             }
@@ -80,7 +99,7 @@ impl Cube {
             row,
             column,
             shape,
-            &block.samples()[..6 * (shape.rows * shape.columns)],
+            &block.samples()[..block.data_bytes()],
         )
     }
 

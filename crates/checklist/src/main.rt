@@ -64,14 +64,19 @@ fn one_unwritten(mode: InterleaveMode) -> Result<Numbers<3>, Refusal> {
     Ok(Numbers([answer.number as usize, answer.first, answer.second]))
 }
 
-fn main(rt: HostRuntime) -> io::Result<()> {
+fn say_all(rt: &impl Print) -> io::Result<()> {
     let label = "empty band list: expected 0 bands, 0 bytes";
-    say(&rt, label, &Numbers([0, 0]), empty_list)?;
+    say(rt, label, &Numbers([0, 0]), empty_list)?;
     let label = "band count against byte count: expected 1 24 2 48 3 72";
-    say(&rt, label, &Numbers([1, 24, 2, 48, 3, 72]), band_count)?;
+    say(rt, label, &Numbers([1, 24, 2, 48, 3, 72]), band_count)?;
     let label =
         "lower right block at 12 bits: expected 234 235 236 244 245 246 034 035 036 044 045 046";
-    say(&rt, label, &LOWER_RIGHT, lower_right)?;
+    say(rt, label, &LOWER_RIGHT, lower_right)?;
     let label = "finish with one block unwritten: expected 15, block row 1, block column 0";
-    say(&rt, label, &Numbers([15, 1, 0]), one_unwritten)
+    say(rt, label, &Numbers([15, 1, 0]), one_unwritten)
+}
+
+// A failed write is no error, and tells nobody: the output is compared.
+fn main(rt: HostRuntime) {
+    let _ = say_all(&rt);
 }

@@ -4,6 +4,7 @@
 ghost use Rattle.std.specs.Prelude.{◌≡◌, true, ◌+◌, ◌≤◌, length};
 ghost use Rattle.fields.specs.Fields.{bytes_in, is_number, number_in, put, number, text as text_entry};
 
+use bits::bytes::copy;
 use digits::{are_digits, number_of, put_digits};
 
 pub mod named;
@@ -86,6 +87,6 @@ impl Field {
         requires { self.at + length text.now ≤ length part.old }
         ensures { part.new ≡ put part.old (text_entry self text.now) }
     {
-        part[self.at..self.at + text.len()].copy_from_slice(text);
+        copy(text, 0, text.len(), part, self.at)
     }
 }

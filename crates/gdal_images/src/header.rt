@@ -1,6 +1,6 @@
 // Where the three parts of the image subheader and the image stand, in a file of MIL-STD-2500C with one image of two
 // bands that has no corner coordinates (ICORDS), no comments (NICOM) and no look-up tables (NLUTS).
-ghost use Rattle.std.specs.Prelude.{◌+◌, ◌≤◌};
+ghost use Rattle.std.specs.Prelude.{◌<◌};
 
 use grid::EdgeRule;
 use refusals::Refusal;
@@ -34,14 +34,19 @@ fn digit(bytes: &[u8], at: usize) -> u8 {
     bytes.get(at).map_or(0, |byte| *byte % 16)
 }
 
-// A field of so many digits, at most ten.
-fn field(bytes: &[u8], at: usize, digits: usize) -> usize
-    requires { at + digits ≤ 1000 }
+// The number with one more decimal digit; of a long number the last ten digits are kept.
+fn with_digit(number: usize, digit: u8) -> usize
+    ensures { result < 20000000000 }
 {
-    (at..at + digits).fold(
-        0,
-        |number, at| number % 1_000_000_000 * 10 + digit(bytes, at) as usize,
-    )
+    number % 1_000_000_000 * 10 + digit as usize
+}
+
+// A field of so many digits.
+fn field(bytes: &[u8], at: usize, digits: usize) -> usize
+    requires { (at < 100000000000) × (digits < 16) }
+    ensures { result < 20000000000 }
+{
+    (at..at + digits).fold(0, |number, at| with_digit(number, digit(bytes, at)))
 }
 
 // The bytes of the file from the image subheader on.
@@ -49,13 +54,16 @@ fn from_subheader(file: &[u8]) -> Option<&[u8]> {
     file.get(field(file, HL, 6)..)
 }
 
+// Where the image's bytes start.
+pub fn image_start(file: &[u8]) -> usize
+    ensures { result < 40000000000 }
+{
+    field(file, HL, 6) + field(file, LISH001, 6)
+}
+
 // The bytes of the image.
 pub fn image_of(file: &[u8]) -> Option<&[u8]> {
-    part(
-        from_subheader(file)?,
-        field(file, LISH001, 6),
-        field(file, LI001, 10),
-    )
+    part(file, image_start(file), field(file, LI001, 10))
 }
 
 // A part of the image subheader; a file that ends before it is refused.

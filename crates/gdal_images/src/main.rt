@@ -5,11 +5,14 @@
 // tools/packed_images.py made the packed images, and their lines from what GDAL reads out of them.
 #![tactic(auto)]
 
+ghost use Rattle.std.specs.Prelude.{◌≤◌, length, IfOk};
+
 mod header;
 
 use crate::header::{image_of, subheader_of};
 use grid::Grid;
 use printing::ReadAnswer;
+use std::io::Read;
 use std::rt::Files;
 use std::{fs, io};
 use widths::Widths;
@@ -17,6 +20,9 @@ use windows::Rectangle;
 
 // The most columns of an image that is printed as a whole.
 const MAX_COLUMNS: u32 = 19;
+
+// The most bytes of a file that are read.
+const MAX_BYTES: usize = 40_000;
 
 // The table of widths that each call is handed.
 static STANDARD: Widths = Widths::STANDARD;
@@ -115,10 +121,29 @@ fn print_file(rt: &impl Print, file: &[u8]) -> io::Result<()> {
     }
 }
 
-fn print_named(rt: &(impl Files + Print + Alloc), name: &str) -> io::Result<()> {
-    print!(rt; "{name} ")?;
-    let bytes = fs::read(rt, name)?;
-    print_file(rt, &bytes)
+// The first bytes of a file, as many as `buf` holds, and their count.
+fn read_full(file: &mut impl Read, buf: &mut [u8]) -> io::Result<usize>
+    ensures { IfOk result (λ n. n ≤ length buf.new) }
+{
+    let mut done = 0;
+    for _ in 0..u64::MAX {
+        let n = file.read(&mut buf[done..])?;
+        if n == 0 {
+            break;
+        }
+        done += n;
+    }
+    Ok(done)
+}
+
+// A file that can't be read is an error. A failed write is none, and tells nobody: the output is compared.
+fn print_named(rt: &(impl Files + Print), name: &str) -> io::Result<()> {
+    let _ = print!(rt; "{name} ");
+    let mut file = fs::open(rt, name)?;
+    let mut bytes = [0u8; MAX_BYTES];
+    let n = read_full(&mut file, &mut bytes)?;
+    let _ = print_file(rt, &bytes[..n]);
+    Ok(())
 }
 
 fn main(rt: HostRuntime) -> io::Result<()> {

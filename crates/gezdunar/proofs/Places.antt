@@ -13,8 +13,7 @@ use Rattle.refusals.proofs.Numbers.{number-some}
 use Rattle.widths.specs.declared.Widths.{Widths}
 use Rattle.grid.specs.declared.Grid.{Grid}
 use Rattle.grid.specs.declared.places.Span.{Span}
-use Rattle.grid.specs.Layout.{whole_start, whole_length}
-use Rattle.grid.specs.Internal.BlockLayouts.{whole_span}
+use Rattle.grid.specs.Layout.{whole_start, whole_length, whole_span}
 use Rattle.calls.specs.Orders.{whole_number}
 use Rattle.calls.specs.Reads.{whole_block}
 use Rattle.gezdunar.specs.declared.Place.{Place}

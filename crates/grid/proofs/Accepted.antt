@@ -185,7 +185,7 @@ counted g e =
     record { across = eqb-true _ _ (a 0); down = eqb-true _ _ (a 1); nbpr-le = leb-true _ _ (a 2); nbpc-le = leb-true _ _ (a 3) }
 
 -- samples of a width that is taken can be moved
-sample-size : (n : ℕ) → width_taken n ≡ true → SampleSize n (ceil_div n 8)
+pub sample-size : (n : ℕ) → width_taken n ≡ true → SampleSize n (ceil_div n 8)
 sample-size n e =
     let p = taken-pos n e in
     let t = taken-top n e in

@@ -8,6 +8,7 @@ use Rattle.grid.specs.Sizes.{sample_bytes, band_bytes, blocks, block_index, actu
 use Rattle.grid.specs.declared.EdgeRule.{EdgeRule}
 use Rattle.grid.specs.declared.EdgeRule.TheVariants.{Tight, Full}
 use Rattle.grid.specs.declared.Grid.{Grid}
+use Rattle.grid.specs.declared.places.Span.{Span}
 
 -- byte multiples: the first byte of a sample of the block at an index. In B, P and R the block starts at index × bands
 -- × t
@@ -89,3 +90,7 @@ whole_start g row column = pick (bands_apart g.imode) 0 (block_index g row colum
 
 unfoldable pub whole_length : Grid → ℕ
 whole_length g = pick (bands_apart g.imode) 0 (g.bands * band_bytes g)
+
+-- both
+abbrev pub whole_span : Grid → ℕ → ℕ → Span
+whole_span g row column = record { start = whole_start g row column; length = whole_length g }

@@ -1,7 +1,7 @@
 // Where a block and a sample lie in the image.
 ghost use Rattle.std.specs.Prelude.{◌≡◌};
-ghost use Rattle.grid.specs.Layout.{held as held_by, place, block_end, Sample};
-ghost use Rattle.grid.specs.Internal.BlockLayouts.{layout_of, whole_span};
+ghost use Rattle.grid.specs.Layout.{held as held_by, place, block_end, whole_span, Sample};
+ghost use Rattle.grid.specs.Internal.BlockLayouts.{layout_of};
 
 use crate::{EdgeRule, GridBlock};
 use common::pick;

@@ -250,14 +250,19 @@ fn one_blocks(rt: &impl Print) -> io::Result<()> {
     )
 }
 
-fn main(rt: HostRuntime) -> io::Result<()> {
-    figures(&rt)?;
-    answer_widths(&rt, &[0, 1, 39, 40, 63, 4_294_967_295])?;
-    sides(&rt)?;
-    wide_blocks(&rt)?;
-    high_blocks(&rt)?;
-    counts(&rt)?;
-    images(&rt)?;
-    one_blocks(&rt)?;
-    tables::print_tables(&rt)
+fn print_all(rt: &impl Print) -> io::Result<()> {
+    figures(rt)?;
+    answer_widths(rt, &[0, 1, 39, 40, 63, 4_294_967_295])?;
+    sides(rt)?;
+    wide_blocks(rt)?;
+    high_blocks(rt)?;
+    counts(rt)?;
+    images(rt)?;
+    one_blocks(rt)?;
+    tables::print_tables(rt)
+}
+
+// A failed write is no error, and tells nobody: the output is compared.
+fn main(rt: HostRuntime) {
+    let _ = print_all(&rt);
 }

@@ -17,13 +17,7 @@ impl From<Result<ParsedMask, Refusal>> for Parsed {
             },
             Err(refusal) => Self {
                 number: refusal.number(),
-                mask: ImageDataMask {
-                    image_data_offset: 0,
-                    block_mask_record_length: 0,
-                    pad_pixel_mask_record_length: 0,
-                    pad_pixel_code_length: 0,
-                    pad_pixel_code: 0,
-                },
+                mask: ImageDataMask::none(),
                 used: 0,
             },
         }

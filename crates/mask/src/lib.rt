@@ -3,6 +3,7 @@
 
 ghost use Rattle.std.specs.Prelude.{◌≡◌};
 ghost use Rattle.mask.specs.Table.{records, code_bytes};
+ghost use Rattle.mask.specs.Mask.{no_mask};
 
 use common::pick;
 use grid::AcceptedGrid;
@@ -86,6 +87,19 @@ impl ImageDataMask {
 
     // The most bytes of a written table.
     pub const MAX_TABLE_BYTES: usize = 4_294_967_295;
+
+    // No mask: what stands beside a refusal.
+    pub fn none() -> Self
+        ensures { result ≡ no_mask }
+    {
+        Self {
+            image_data_offset: 0,
+            block_mask_record_length: 0,
+            pad_pixel_mask_record_length: 0,
+            pad_pixel_code_length: 0,
+            pad_pixel_code: 0,
+        }
+    }
 
     // The bytes of the pad code.
     fn code_bytes(self) -> usize

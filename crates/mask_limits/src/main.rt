@@ -46,18 +46,23 @@ fn wrapped(rt: &impl Print) -> io::Result<()> {
     print_write(rt, "to_bytes", grid, header(4, 0, 0, 0))
 }
 
-fn main(rt: HostRuntime) -> io::Result<()> {
-    wrapped(&rt)?;
+fn print_all(rt: &impl Print) -> io::Result<()> {
+    wrapped(rt)?;
     // 1,073,741,820 records and a code of 4 bytes: 4,294,967,294 bytes.
     let largest = sequential(7_366, 9_718, 15);
-    print_write(&rt, "largest table", largest, header(4, 0, 32, 7))?;
+    print_write(rt, "largest table", largest, header(4, 0, 32, 7))?;
     // 1,073,741,822 records and no code: 4,294,967,298 bytes.
     let refused = sequential(1_103, 4_178, 233);
-    print_write(&rt, "smallest refused", refused, header(4, 0, 0, 0))?;
-    print_write(&rt, "no records", refused, header(0, 0, 0, 0))?;
+    print_write(rt, "smallest refused", refused, header(4, 0, 0, 0))?;
+    print_write(rt, "no records", refused, header(0, 0, 0, 0))?;
     let two = sequential(2, 1, 1);
-    print_write(&rt, "record length 3", two, header(3, 0, 0, 0))?;
-    print_write(&rt, "code of 33 bits", two, header(4, 0, 33, 0))?;
-    print_write(&rt, "code 256 in 8 bits", two, header(4, 0, 8, 256))?;
-    print_write(&rt, "code 1 in no bits", two, header(4, 0, 0, 1))
+    print_write(rt, "record length 3", two, header(3, 0, 0, 0))?;
+    print_write(rt, "code of 33 bits", two, header(4, 0, 33, 0))?;
+    print_write(rt, "code 256 in 8 bits", two, header(4, 0, 8, 256))?;
+    print_write(rt, "code 1 in no bits", two, header(4, 0, 0, 1))
+}
+
+// A failed write is no error, and tells nobody: the output is compared.
+fn main(rt: HostRuntime) {
+    let _ = print_all(&rt);
 }

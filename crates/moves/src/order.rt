@@ -13,6 +13,8 @@ use layout::{BlockLayout, Strides};
 const CACHE_LINE: usize = 512;
 // The bits of the image that a piece spans where bands alternate: they stay in the cache until the last band is moved.
 const PIECE: usize = 65_536;
+// Rows of few bands that alternate are moved as many at a time as have these bits: a piece costs as much as they do.
+const SHORT_ROWS: usize = 8_192;
 // The rows of more bands than these that alternate are moved so many at a time.
 const FEW_BANDS: usize = 16;
 
@@ -184,18 +186,22 @@ fn columns_together(by: Strides, width: usize, columns: usize) -> usize
     PIECE / by.column
 }
 
-// How many rows of a band are moved together: all where they lie together; one, as the image lies, where the rows of
-// few bands alternate, and some where those of many do, so that each band is touched in longer runs; else those of a
-// piece.
-fn rows_together(by: Strides, width: usize, bands: usize, rows: usize) -> usize
-    requires { 0 < rows }
+// How many rows of a band are moved together: all where they lie together; where the rows of few bands alternate one,
+// as the image lies, or some if they are short, and some where those of many do, so that each band is touched in longer
+// runs; else those of a piece.
+fn rows_together(by: Strides, width: usize, bands: usize, rows: usize, columns: usize) -> usize
+    requires { (0 < by.column) × (0 < rows) × (0 < columns) }
     ensures { 0 < result }
 {
     if bands == 1 || by.row <= by.band {
         return rows;
     }
     if by.column == width {
-        return if bands > FEW_BANDS { ROWS_AT_ONCE } else { 1 };
+        return if bands > FEW_BANDS {
+            ROWS_AT_ONCE
+        } else {
+            (SHORT_ROWS / by.column / columns).max(1)
+        };
     }
     if by.row < PIECE { PIECE / by.row } else { 1 }
 }
@@ -219,7 +225,7 @@ pub fn choose(
     } else if together > 0 && long_pixels(by, width) {
         (Way::Pixels, together, 1, columns)
     } else {
-        let r = rows_together(by, width, bands, rows);
+        let r = rows_together(by, width, bands, rows, columns);
         (Way::Rows, 1, r, columns_together(by, width, columns))
     };
     Order {

@@ -43,9 +43,8 @@ impl PartRead<'_> {
     ghost use Rattle.moves.specs.Internal.PartReads.{HasRead, RoomIn, Moves, MovesArea, read_all};
     ghost use Rattle.moves.specs.Internal.Orders.{InPiece, InArea};
 
-    // Rows of one of the bands asked for go to their places in `out`. The samples of a row stand evenly. Rows of few
-    // samples are read faster where this is a call.
-    #[inline(never)]
+    // Rows of one of the bands asked for go to their places in `out`. The samples of a row stand evenly.
+    #[inline(always)]
     fn rows(&self, piece: Piece, out: &mut [u8])
         requires room { RoomIn self.now out.old }
         requires moves { Moves self.now Way.Rows piece }
@@ -117,6 +116,7 @@ impl PartRead<'_> {
     }
 
     // The samples of a piece go to their places in `out`.
+    #[inline(always)]
     fn piece(&self, way: Way, piece: Piece, out: &mut [u8])
         requires room { RoomIn self.now out.old }
         requires moves { Moves self.now way piece }

@@ -11,7 +11,6 @@ use layout::{BlockLayout, InterleaveMode};
 use moves::part::read_planes;
 use moves::store::store_block;
 use printing::Hex;
-use std::io;
 
 fn placed() -> BlockLayout
     ensures { result ≡ placed_layout }
@@ -37,11 +36,12 @@ const PLANES: [u8; 24] = [
 ];
 
 // Stores the planes, and reads bands 1 and 0 of the block.
-fn main(rt: HostRuntime) -> io::Result<()> {
+// A failed write is no error, and tells nobody: the output is compared.
+fn main(rt: HostRuntime) {
     let mut file = [0xAAu8; 32];
     store_block(&mut file, placed(), &PLANES);
     let mut out = [0u8; 24];
     read_planes(&file, placed(), Some(&[1, 0]), &mut out);
-    println!(rt; "{}", Hex(&file))?;
-    println!(rt; "{}", Hex(&out))
+    let _ = println!(rt; "{}", Hex(&file));
+    let _ = println!(rt; "{}", Hex(&out));
 }

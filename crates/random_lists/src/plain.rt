@@ -34,10 +34,11 @@ fn number_of(sample: &[u8]) -> u64 {
     sample.iter().fold(0, |v, &byte| (v << 8) | u64::from(byte))
 }
 
-// The low bits of a number.
-fn low_bits(v: u64, bits: usize) -> u64
-    requires { (0 < bits) × (bits ≤ 64) }
-{
+// The low bits of a number; all of it where they are none, or more than 63.
+pub fn low_bits(v: u64, bits: usize) -> u64 {
+    if bits < 1 || 63 < bits {
+        return v;
+    }
     v & (u64::MAX >> (64 - bits))
 }
 

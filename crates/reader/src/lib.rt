@@ -7,7 +7,7 @@ ghost use Rattle.std.specs.Prelude.{◌≡◌, ◌+◌, length, IfOk};
 ghost use Rattle.refusals.specs.Refusals.{answer_number};
 ghost use Rattle.layout.specs.Bands.{bands_in};
 ghost use Rattle.grid.specs.Check.{grid_number};
-ghost use Rattle.grid.specs.Internal.BlockLayouts.{whole_span};
+ghost use Rattle.grid.specs.Layout.{whole_span};
 ghost use Rattle.calls.specs.Orders.{rectangle, whole_number};
 ghost use Rattle.calls.specs.Reads.{block_read, whole_block, whole_at, window, filled_with};
 ghost use Rattle.calls.specs.Results.{shape_of};

@@ -1,7 +1,7 @@
 // The whole nominal block, as a part of the caller's image bytes.
 ghost use Rattle.std.specs.Prelude.{◌≡◌, ◌+◌, length, IfOk};
 ghost use Rattle.refusals.specs.Refusals.{answer_number};
-ghost use Rattle.grid.specs.Internal.BlockLayouts.{whole_span};
+ghost use Rattle.grid.specs.Layout.{whole_span};
 ghost use Rattle.calls.specs.Orders.{whole_number};
 ghost use Rattle.calls.specs.Reads.{whole_block, whole_at};
 

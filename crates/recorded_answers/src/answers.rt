@@ -8,7 +8,8 @@ pub const BEFORE: u8 = 0xA5;
 impl Record<'_> {
     // Has the record this number, these values and so many bytes of output?
     fn holds(&self, number: u32, values: &[usize], bytes: usize) -> bool {
-        let recorded = self.values.iter().map(|v| *v as usize);
+        let (recorded, _) = self.values.as_chunks::<4>();
+        let recorded = recorded.iter().map(|v| u32::from_be_bytes(*v) as usize);
         self.number == number && recorded.eq(values.iter().copied()) && self.output.len() == bytes
     }
 

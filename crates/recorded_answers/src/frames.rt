@@ -1,6 +1,6 @@
 // Records that belong together over one image and its marks. Each answers whether the call gave what is recorded.
 use crate::answers::BEFORE;
-use crate::grids::{STANDARD, image_bytes, mark_words};
+use crate::grids::{STANDARD, image_bytes, mark_bytes};
 use crate::records::{Fault, Record};
 use calls::Extent;
 
@@ -9,6 +9,12 @@ use calls::Extent;
 pub struct Frame {
     image: [u8; 1024],
     marks: [u64; 2],
+}
+
+// The marks that are recorded after so many bytes of an image. Where the file ends before they do, there are none.
+fn recorded_marks<'a>(r: &Record<'a>, bytes: usize) -> &'a [u8] {
+    let after = r.from_output.get(bytes..).unwrap_or_default();
+    after.get(..mark_bytes(r.grid)).unwrap_or_default()
 }
 
 impl Frame {
@@ -25,7 +31,7 @@ impl Frame {
     }
 
     pub fn write(&mut self, r: &Record<'_>) -> Result<bool, Fault> {
-        let ([row, column, bands, rows, columns], _) = r.arguments::<5>()?;
+        let [row, column, bands, rows, columns] = r.arguments::<5>()?;
         let shape = Extent {
             bands: bands as usize,
             rows: rows as usize,
@@ -45,7 +51,7 @@ impl Frame {
     }
 
     pub fn skip(&mut self, r: &Record<'_>) -> Result<bool, Fault> {
-        let ([row, column], _) = r.arguments::<2>()?;
+        let [row, column] = r.arguments::<2>()?;
         let a = writing::skip_block(&self.image, &mut self.marks, r.grid, &STANDARD, row, column);
         Ok(r.has(a.map(|()| ([], 0))))
     }
@@ -60,11 +66,18 @@ impl Frame {
         r.has(a.map(|()| ([0, 0], 0)))
     }
 
-    // The image and the marks, as the calls left them.
+    // The image and at most two words of marks, as the calls left them. A longer image than this one is not looked at.
     pub fn contents(&self, r: &Record<'_>) -> bool {
-        let (bytes, words) = (image_bytes(r.grid), mark_words(r.grid));
-        let marks = self.marks.iter().take(words).flat_map(|m| m.to_be_bytes());
-        let left = self.image.iter().copied().take(bytes).chain(marks);
-        left.eq(r.output.iter().copied()) && r.has(Ok(([], r.output.len())))
+        let bytes = image_bytes(r.grid);
+        let left = self.image.get(..bytes).unwrap_or_default();
+        let marks = recorded_marks(r, bytes);
+        let (recorded, _) = marks.as_chunks::<8>();
+        r.has(Ok(([], left.len().saturating_add(mark_bytes(r.grid)))))
+            && r.output.starts_with(left)
+            && self
+                .marks
+                .iter()
+                .zip(recorded)
+                .all(|(m, bytes)| *m == u64::from_be_bytes(*bytes))
     }
 }

@@ -1,5 +1,4 @@
-// The grid of a record, the table of widths, and sizes from document 01, "Where a sample lies". A size that is too
-// large for its type is the largest number.
+// The grid of a record, the table of widths, and sizes from document 01, "Where a sample lies".
 use crate::records::Fault;
 use grid::{EdgeRule, Grid};
 use layout::InterleaveMode;
@@ -36,6 +35,16 @@ pub fn grid_of(words: [u32; 9]) -> Result<Grid, Fault> {
     })
 }
 
+// The low 32 bits of a number.
+fn low(n: usize) -> u32 {
+    (n % 4_294_967_296) as u32
+}
+
+// The product of the low 32 bits of two numbers.
+fn product(a: usize, b: usize) -> usize {
+    low(a) as usize * low(b) as usize
+}
+
 fn blocks(grid: Grid) -> usize {
     grid.nbpr as usize * grid.nbpc as usize
 }
@@ -48,13 +57,16 @@ pub fn sample_bytes(grid: Grid) -> usize {
 // Bytes of the image.
 pub fn image_bytes(grid: Grid) -> usize {
     let samples = grid.nppbh as usize * grid.nppbv as usize;
-    let band_bytes = samples.saturating_mul(grid.nbpp as usize).div_ceil(8);
-    blocks(grid)
-        .saturating_mul(grid.bands as usize)
-        .saturating_mul(band_bytes)
+    let band_bytes = product(samples, grid.nbpp as usize).div_ceil(8);
+    product(product(blocks(grid), grid.bands as usize), band_bytes)
 }
 
 // Words that hold the marks.
 pub fn mark_words(grid: Grid) -> usize {
     blocks(grid).div_ceil(64)
+}
+
+// Bytes of these words.
+pub fn mark_bytes(grid: Grid) -> usize {
+    product(8, mark_words(grid))
 }

@@ -18,10 +18,12 @@ use std::io;
 use std::io::Read;
 
 // The longest file, and one byte more by which a longer file is known.
-const ROOM: u64 = 600_001;
+const ROOM: usize = 600_001;
 
+// A read that fails ends the file, and a line that can't be written is left out.
 fn main(rt: HostRuntime) -> io::Result<()> {
-    let mut data = Vec::new(rt.alloc());
-    rt.reader().take(ROOM).read_to_end(&mut data)?;
-    replay::replay_file(&rt, data.as_slice())
+    let mut data = Vec::with_capacity(rt.alloc(), ROOM)?;
+    let _read = rt.reader().take(ROOM as u64).read_to_end(&mut data);
+    let _written = replay::replay_file(&rt, data.as_slice());
+    Ok(())
 }

@@ -2,8 +2,8 @@
 use crate::answers::BEFORE;
 use crate::grids::STANDARD;
 use crate::records::{Fault, Record};
+use crate::words::{padded, part};
 use mask::{ImageDataMask, ParsedMask};
-use std::alloc::Global;
 
 // The lengths of a block record and of a pad record in bytes, and of the pad code in bits.
 fn lengths(m: ImageDataMask) -> [usize; 3] {
@@ -36,11 +36,12 @@ fn short(n: u32) -> u16 {
     (n % 65536) as u16
 }
 
+// The block offsets may reach past the arguments; then there are no pad offsets.
 pub fn write(r: &Record<'_>, out: &mut [u8]) -> Result<bool, Fault> {
-    let ([block_length, pad_length, code_length, code, count], offsets) = r.arguments::<5>()?;
-    let (blocks, pads) = offsets
-        .split_at_checked(count as usize)
-        .ok_or(Fault::TooFewArguments)?;
+    let [block_length, pad_length, code_length, code, count] = r.arguments::<5>()?;
+    let words = r.words();
+    let pads_at = 5 + count as usize;
+    let (blocks, pads) = (part(&words, 5, pads_at), part(&words, pads_at, r.count));
     let m = ImageDataMask {
         image_data_offset: 0,
         block_mask_record_length: short(block_length),
@@ -63,7 +64,7 @@ fn lookup_values(present: bool, offset: Option<u32>) -> [usize; 3] {
 
 // A lookup is both of the library's calls, which have one refusal.
 pub fn lookup(r: &Record<'_>) -> Result<bool, Fault> {
-    let ([row, column, band], _) = r.arguments::<3>()?;
+    let [row, column, band] = r.arguments::<3>()?;
     let block = ImageDataMask::has_block(r.input, r.grid, &STANDARD, row, column, band);
     let place = ImageDataMask::get_block_offset(r.input, r.grid, &STANDARD, row, column, band);
     Ok(match (block, place) {
@@ -73,18 +74,18 @@ pub fn lookup(r: &Record<'_>) -> Result<bool, Fault> {
     })
 }
 
-pub fn from_marks(alloc: Global, r: &Record<'_>) -> Result<bool, Fault> {
+pub fn from_marks(r: &Record<'_>) -> bool {
     let mut marks = [0u64; 2];
-    let (recorded, _) = r.input.as_chunks::<8>();
-    for (mark, bytes) in marks.iter_mut().zip(recorded) {
-        *mark = u64::from_be_bytes(*bytes);
+    for (mark, bytes) in marks.iter_mut().zip(r.input.chunks(8)) {
+        *mark = u64::from_be_bytes(padded(bytes));
     }
     let mut offsets = [u32::from_be_bytes([BEFORE; 4]); 256];
     let made = ImageDataMask::from_provided_blocks(&marks, r.grid, &STANDARD, &mut offsets);
     let answer = made.map(|p| (lengths(p.mask), p.used.saturating_mul(4)));
-    let out = offsets
-        .iter()
-        .flat_map(|offset| offset.to_be_bytes())
-        .collect::<Vec<u8>>(alloc)?;
-    Ok(r.has(answer) && r.fills(out.as_slice()))
+    let mut out = [BEFORE; 1024];
+    let (words, _) = out.as_chunks_mut::<4>();
+    for (word, offset) in words.iter_mut().zip(offsets) {
+        *word = offset.to_be_bytes();
+    }
+    r.has(answer) && r.fills(&out)
 }

@@ -4,16 +4,15 @@ use crate::counts::Counts;
 use crate::frames::Frame;
 use crate::kinds::Kind;
 use crate::records::{Fault, Record};
-use crate::words::Words;
+use crate::words::{Words, padded};
 use crate::{masks, reads, reorderings};
-use std::alloc::Global;
 use std::io;
 
 // Bytes of a record whose lists are empty.
 const LEAST_BYTES: usize = 64;
 
 // Runs the call of a record. Is its answer the recorded one?
-fn same(alloc: Global, r: &Record<'_>, frame: &mut Frame) -> Result<bool, Fault> {
+fn same(r: &Record<'_>, frame: &mut Frame) -> Result<bool, Fault> {
     let mut out = [BEFORE; 1024];
     match r.kind {
         Kind::BlockRead => reads::block_read(r, &mut out),
@@ -28,17 +27,17 @@ fn same(alloc: Global, r: &Record<'_>, frame: &mut Frame) -> Result<bool, Fault>
         Kind::MaskParse => Ok(masks::parse(r)),
         Kind::MaskWrite => masks::write(r, &mut out),
         Kind::MaskLookup => masks::lookup(r),
-        Kind::MaskFromMarks => masks::from_marks(alloc, r),
+        Kind::MaskFromMarks => Ok(masks::from_marks(r)),
         Kind::ToBandSequential | Kind::FromBandSequential | Kind::FromPixels => {
             reorderings::reordering(r, &mut out)
         }
     }
 }
 
-// The number of the next record's kind, or 0 where the file ends before it.
+// The number of the next record's kind. Zeros stand for the bytes after the file.
 fn next_kind(mut file: Words<'_>) -> u32 {
     let _length = file.word();
-    file.word().unwrap_or(0)
+    u32::from_be_bytes(padded(file.left))
 }
 
 #[derive(Drop)]
@@ -50,17 +49,17 @@ struct Replay<'a> {
 
 impl Replay<'_> {
     // Replays the next record. Is its answer the recorded one?
-    fn same(&mut self, alloc: Global) -> Result<bool, Fault> {
-        let r = Record::read(alloc, &mut self.file)?;
-        let equal = same(alloc, &r, &mut self.frame)?;
+    fn same(&mut self) -> Result<bool, Fault> {
+        let r = Record::read(&mut self.file)?;
+        let equal = same(&r, &mut self.frame)?;
         self.counts.add(r.kind, equal);
         Ok(equal)
     }
 
     // Replays record i. The first three that differ are named, and the first three that are damaged or missing.
-    fn record(&mut self, rt: &(impl Print + AllocGlobal), i: u32) -> io::Result<()> {
+    fn record(&mut self, rt: &impl Print, i: u32) -> io::Result<()> {
         let kind = next_kind(self.file);
-        match self.same(rt.alloc()) {
+        match self.same() {
             Ok(true) => Ok(()),
             Ok(false) if self.counts.differences() > 3 => Ok(()),
             Ok(false) => println!(rt; "record {i} of kind {kind}: {:<32}", "the answer differs"),
@@ -97,7 +96,8 @@ fn records_of(data: &[u8]) -> Option<(u32, Words<'_>)> {
     Some((count, file))
 }
 
-pub fn replay_file(rt: &(impl Print + AllocGlobal), data: &[u8]) -> io::Result<()> {
+// A line that can't be written is left out; the result is that of the last one.
+pub fn replay_file(rt: &impl Print, data: &[u8]) -> io::Result<()> {
     let Some((count, file)) = records_of(data) else {
         return println!(rt; "no file of records, or too short for its records");
     };
@@ -107,8 +107,8 @@ pub fn replay_file(rt: &(impl Print + AllocGlobal), data: &[u8]) -> io::Result<(
         counts: Counts::default(),
     };
     for i in 0..count {
-        replay.record(rt, i)?;
+        let _written = replay.record(rt, i);
     }
-    replay.rest(rt)?;
+    let _written = replay.rest(rt);
     println!(rt; "{}", replay.counts)
 }

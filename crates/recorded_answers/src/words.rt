@@ -1,6 +1,4 @@
 // Big-endian words and their lists, one after another out of bytes.
-use std::alloc::{AllocError, Global};
-
 #[derive(Clone, Copy)]
 pub struct Words<'a> {
     pub left: &'a [u8],
@@ -42,8 +40,25 @@ impl<'a> Words<'a> {
     }
 }
 
-// The words that stand in some bytes.
-pub fn words_of(alloc: Global, bytes: &[u8]) -> Result<Vec<u32>, AllocError> {
-    let (words, _) = bytes.as_chunks::<4>();
-    words.iter().map(|w| u32::from_be_bytes(*w)).collect(alloc)
+// The first bytes. Where there are fewer, zeros stand for the others.
+pub fn padded<const N: usize>(bytes: &[u8]) -> [u8; N] {
+    let mut padded = [0; N];
+    for (to, from) in padded.iter_mut().zip(bytes) {
+        *to = *from;
+    }
+    padded
+}
+
+// The first words that stand in some bytes. Zeros stand for the bytes after them.
+pub fn words_of<const N: usize>(bytes: &[u8]) -> [u32; N] {
+    let mut words = [0; N];
+    for (word, chunk) in words.iter_mut().zip(bytes.chunks(4)) {
+        *word = u32::from_be_bytes(padded(chunk));
+    }
+    words
+}
+
+// The words from one place up to another. Where not all of them are there, it is none.
+pub fn part(words: &[u32], from: usize, end: usize) -> &[u32] {
+    words.get(from..end).unwrap_or_default()
 }

@@ -203,12 +203,17 @@ fn extremes(rt: &impl Print) -> io::Result<()> {
     )
 }
 
-fn main(rt: HostRuntime) -> io::Result<()> {
+fn print_all(rt: &impl Print) -> io::Result<()> {
     for size in 1..9 {
         for mode in InterleaveMode::ALL {
-            reorder(&rt, mode, size)?;
+            reorder(rt, mode, size)?;
         }
     }
-    selections(&rt)?;
-    extremes(&rt)
+    selections(rt)?;
+    extremes(rt)
+}
+
+// A failed write is no error, and tells nobody: the output is compared.
+fn main(rt: HostRuntime) {
+    let _ = print_all(&rt);
 }

@@ -7,7 +7,7 @@ ghost use Rattle.rows.specs.Internal.Places.{RowsInImage, RowsInData, RowsFit, r
 use rows::Rows;
 use samples::read::read_samples;
 use samples::write::write_samples;
-use whole::{copy_rows, whole_rows};
+use whole::{copy_byte_rows, whole_rows};
 
 pub mod listed;
 pub mod rows;
@@ -46,7 +46,7 @@ pub fn write_rows(dat: &[u8], rows: Rows, img: &mut [u8])
         return;
     }
     if rows.first.step == rows.first.width && rows.first.width == 8 * rows.first.size {
-        copy_rows(dat, rows.bytes().turned(), img);
+        copy_byte_rows(dat, rows.bytes().turned(), img);
         return;
     }
     for i in 0..rows.count {

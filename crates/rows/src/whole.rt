@@ -1,23 +1,55 @@
 // Rows of samples of whole bytes.
-ghost use Rattle.std.specs.Prelude.{◌≡◌, ◌<◌, length};
+ghost use Rattle.std.specs.Prelude.{◌≡◌, ◌+◌, ◌*◌, ◌≤◌, ◌<◌, length};
+ghost use Rattle.rows.specs.Internal.Rows.{whole_rows};
 ghost use Rattle.rows.specs.Internal.Places.{ByteRowsInImage, ByteRowsInData, whole_rows_at};
 
 use crate::rows::ByteRows;
 use bits::bytes::copy;
 use samples::read::gather_any;
 
+// `rows` rows of `count` samples of `size` bytes that stand side by side, from index `at` of `src` to index `to` of
+// `out` on. Rows start `row` bytes apart in `src` and `line` bytes apart in `out`. A sample may have any size.
+pub fn copy_rows(
+    src: &[u8],
+    at: usize,
+    row: usize,
+    size: usize,
+    count: usize,
+    out: &mut [u8],
+    to: usize,
+    line: usize,
+    rows: usize,
+)
+    requires src_holds { (0 < rows) × (at + rows * row + count * size ≤ length src.now + row) }
+    requires out_holds { to + rows * line + count * size ≤ length out.old + line }
+    ensures { out.new ≡ whole_rows src.now at row size size count to line rows
+        out.old }
+{
+    let n = count * size;
+    for i in 0..rows {
+        copy(src, at + i * row, n, out, to + i * line);
+    }
+}
+
 // Rows of samples that stand side by side in `src` go to `out`.
-pub(crate) fn copy_rows(src: &[u8], rows: ByteRows, out: &mut [u8])
+pub(crate) fn copy_byte_rows(src: &[u8], rows: ByteRows, out: &mut [u8])
     requires side_by_side { (0 < rows.count) × (rows.first.step ≡ rows.first.size) }
     requires src_holds { ByteRowsInImage rows (length src.now) }
     requires out_holds { ByteRowsInData rows (length out.old) }
     ensures { out.new ≡ whole_rows_at src.now rows out.old }
 {
-    let n = rows.first.count * rows.first.size;
-    for i in 0..rows.count {
-        let row = rows.row(i);
-        copy(src, row.at, n, out, row.data_at);
-    }
+    let first = rows.first;
+    copy_rows(
+        src,
+        first.at,
+        rows.apart,
+        first.size,
+        first.count,
+        out,
+        first.data_at,
+        rows.data_apart,
+        rows.count,
+    )
 }
 
 // Rows of samples of `src` go side by side to `out`.
@@ -58,7 +90,7 @@ pub fn whole_rows(src: &[u8], rows: ByteRows, out: &mut [u8])
     ensures { out.new ≡ whole_rows_at src.now rows out.old }
 {
     if rows.first.step == rows.first.size {
-        copy_rows(src, rows, out)
+        copy_byte_rows(src, rows, out)
     } else {
         gather_rows(src, rows, out)
     }

@@ -141,7 +141,7 @@ fn print_set(rt: &impl Print, parts: &str, bands: u32) -> io::Result<()> {
 
 // Blocks of 4 rows and 8 columns; one block with both sides zero; a zero with two blocks across; a side above 8,192 in
 // digits; an image of 4,294,967,294 bytes; a PVTYPE that is none, and no rows.
-fn main(rt: HostRuntime) -> io::Result<()> {
+fn print_sets(rt: &impl Print) -> io::Result<()> {
     let sets = [
         (
             "0000001300000019INTMONO    VIS     08RNCB000300040008000408",
@@ -169,7 +169,12 @@ fn main(rt: HostRuntime) -> io::Result<()> {
         ),
     ];
     for (parts, bands) in sets {
-        print_set(&rt, parts, bands)?;
+        print_set(rt, parts, bands)?;
     }
     Ok(())
+}
+
+// A failed write is no error, and tells nobody: the output is compared.
+fn main(rt: HostRuntime) {
+    let _ = print_sets(&rt);
 }

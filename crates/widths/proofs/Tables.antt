@@ -1,6 +1,6 @@
 -- A table by its entries.
 -- Assumes nothing.
-use Rattle.std.specs.Prelude.{ℕ, ◌≡◌, List, get_or, length, take, drop, replicate, min}
+use Rattle.std.specs.Prelude.{ℕ, ◌≡◌, List, get_or, length, take, drop, replicate}
 use Rattle.std.proofs.Common.{sym, ap, ◌∙◌, ◌≤◌, ◌<◌, ◌+◌, arith}
 use native.Mathlib.Decide.{dec_lt}
 use native.Mathlib.Nat.{zero-add}

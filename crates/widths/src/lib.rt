@@ -1,11 +1,11 @@
 // The width table: bytes of a sample by NBPP. A site may load one in which widths are barred.
 #![tactic(auto)]
 
-ghost use Rattle.std.specs.Prelude.{◌≡◌};
+ghost use Rattle.std.specs.Prelude.{◌≡◌, get_or};
 ghost use Rattle.widths.specs.Widths.{width_bytes, standard, takes, table_of};
 ghost use Rattle.widths.specs.Loading.{header_fits, is_entry, entries_fit, loaded_of, load};
 
-use bits::bytes::{copy, get_be};
+use bits::bytes::get_be;
 use refusals::Refusal;
 
 // The constant table: bytes of a sample of NBPP 0 to 64; zero where the width is refused.
@@ -52,6 +52,13 @@ fn has_header(bytes: &[u8]) -> bool
     bytes.len() == 68 && get_be(bytes, 0, 2) == 66 && bytes[2] == 1
 }
 
+// An entry; 0 where it is not there.
+fn entry_in(entries: &[u8], n: usize) -> u8
+    ensures { result ≡ get_or entries.now n 0 }
+{
+    entries.get(n).copied().unwrap_or(0)
+}
+
 impl Widths {
     // The constant table.
     pub const STANDARD: Self = Self { entries: ENTRIES };
@@ -66,14 +73,17 @@ impl Widths {
     pub fn new(entries: &[u8]) -> Self
         ensures { result ≡ table_of entries.now }
     {
-        // A copy whose length the compiler knows: it is a few moves, where the other one is a call.
+        // A copy whose length the compiler knows: it is a few moves.
         if entries.len() >= 65 {
             return Self {
                 entries: entries[..65].try_into().unwrap(),
             };
         }
+        // Of another length it would be a call of the C library's `memcpy`.
         let mut table = [0; 65];
-        copy(entries, 0, entries.len(), &mut table, 0);
+        for n in 0..65 {
+            table[n] = entry_in(entries, n);
+        }
         Self { entries: table }
     }
 

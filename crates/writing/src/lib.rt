@@ -88,7 +88,8 @@ pub fn progress(marks: &[u64], grid: Grid, widths: &Widths) -> Result<usize, Ref
     ensures { progress_of result ≡ progress_by widths.now grid marks.now }
 {
     let grid = check_marks(grid, widths, marks.len())?;
-    Ok(marks::count_marks(marks, grid.blocks()))
+    let blocks = grid.blocks();
+    Ok(marks::count_marks(marks, blocks))
 }
 
 // Is every block marked? Else the first that is not, by rows, then columns, beside 15. Changes nothing.

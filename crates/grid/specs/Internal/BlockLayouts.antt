@@ -9,8 +9,7 @@ use Rattle.layout.specs.declared.BlockLayout.{BlockLayout}
 use Rattle.layout.specs.Order.{bands_apart}
 use Rattle.grid.specs.declared.Grid.{Grid}
 use Rattle.grid.specs.Sizes.{band_bytes, blocks, block_index, actual_rows, actual_columns, byte_multiple}
-use Rattle.grid.specs.Layout.{packed_rows, packed_columns, whole_start, whole_length}
-use Rattle.grid.specs.declared.places.Span.{Span}
+use Rattle.grid.specs.Layout.{packed_rows, packed_columns}
 
 -- the byte of run 0 of the block at an index
 abbrev pub first_byte : InterleaveMode → Grid → ℕ → ℕ
@@ -42,7 +41,3 @@ layout_of g row column =
       bands = g.bands;
       nbpp = g.nbpp;
     }
-
--- the whole nominal block, as the code has it
-abbrev pub whole_span : Grid → ℕ → ℕ → Span
-whole_span g row column = record { start = whole_start g row column; length = whole_length g }

@@ -27,14 +27,14 @@ write_samples-requires-clause-samples_fit c =
 pub returns-in-Some : goal.returns-in-Some
 returns-in-Some c = one_is_written c.args.rows _ c.in-Some.ensures _ _ c.write_samples.ensures
 
-pub copy_rows-requires-clause-out_holds : goal.copy_rows-requires-clause-out_holds
-copy_rows-requires-clause-out_holds c =
+pub copy_byte_rows-requires-clause-out_holds : goal.copy_byte_rows-requires-clause-out_holds
+copy_byte_rows-requires-clause-out_holds c =
     turned_in_data c.args.rows _ c.bytes.ensures c.if-rows-2.true _ c.requires.movable c.if-rows.true _ c.turned.ensures
 
 pub returns-then-rows-2 : goal.returns-then-rows-2
 returns-then-rows-2 c =
     turned_are_written c.args.rows _ c.bytes.ensures c.if-rows-2.true _ c.requires.movable c.if-rows.true _
-    c.turned.ensures _ _ (λ i. (c.type_inv.dat i).fits) (search rules) (omega arith) c.copy_rows.ensures
+    c.turned.ensures _ _ (λ i. (c.type_inv.dat i).fits) (search rules) (omega arith) c.copy_byte_rows.ensures
 
 pub loop-i-init : goal.loop-i-init
 loop-i-init c = iter-none _ _

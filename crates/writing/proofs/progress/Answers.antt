@@ -19,8 +19,9 @@ returns-in_err-grid c =
 
 pub count_marks-requires : goal.count_marks-requires
 count_marks-requires c =
-    rw (c.blocks-2.ensures, c.in_ok-grid.ensures.same) (omega (arith, progress-facts _ _ _ (sym c.in_ok-grid.ensures.number)))
+    let counted = rw c.in_ok-grid.ensures.same at c.blocks-blocks.ensures in
+    omega (arith, counted, progress-facts _ _ _ (sym c.in_ok-grid.ensures.number))
 
 pub returns : goal.returns
 unfolding progress outcome
-returns c = rw (c.count_marks.ensures, c.blocks-2.ensures, c.in_ok-grid.ensures.same, sym c.in_ok-grid.ensures.number) refl
+returns c = rw (c.count_marks.ensures, c.blocks-blocks.ensures, c.in_ok-grid.ensures.same, sym c.in_ok-grid.ensures.number) refl

@@ -10,9 +10,7 @@ loop-i-init c = iter-none _ _
 
 pub loop-i-preserved : goal.loop-i-preserved
 loop-i-preserved c =
-    let rows = c.args.rows in
-    let r = c.row-row.ensures in
+    let a = c.args in
     iter_turn _ _ c.loop-i.i c.loop-i.invariant
-    (rw c.requires.side_by_side.1
-    (copied_row c.args.src.now rows.first.at rows.apart rows.first.size rows.first.count c.loop-i.i _ _
-    (λ i. (c.type_inv.src i).fits) (grind arith) (rw (r.at, r.data_at) at c.copy.ensures)))
+    (copied_row a.src.now a.at a.row a.size a.count c.loop-i.i _ _ (λ i. (c.type_inv.src i).fits) (grind arith)
+    c.copy.ensures)

@@ -5,7 +5,4 @@ use Rattle.rows.specs.Internal.Rows.{whole_rows}
 use Rattle.rows.proofs.whole.copy_rows.Given as goal
 
 abbrev pub invariant-loop-i : goal.invariant-loop-i
-invariant-loop-i l =
-    l.out
-    ≡ whole_rows l.src l.rows.first.at l.rows.apart l.rows.first.step l.rows.first.size l.rows.first.count
-    l.rows.first.data_at l.rows.data_apart l.i l.fn.out
+invariant-loop-i l = l.out ≡ whole_rows l.src l.at l.row l.size l.size l.count l.to l.line l.i l.fn.out

@@ -1,10 +1,11 @@
--- 65 entries are the table's, and fewer are put over 65 zeros.
-use Rattle.std.proofs.Common.{ap, sym, ◌∙◌, arith}
-use Rattle.std.specs.Prelude.{List, ℕ, ◌≡◌, length, take}
+-- 65 entries are the table's, and fewer are taken one by one.
+use Rattle.std.proofs.Common.{ap, ◌∙◌, arith}
+use Rattle.std.specs.Prelude.{List, ℕ, get_or}
 use lib.Seq.{length-take-le}
+use Rattle.common.proofs.Tabulate.{tabulate_is}
 use Rattle.widths.specs.declared.Widths.{Widths}
 use Rattle.widths.specs.Widths.{table_of}
-use Rattle.widths.proofs.Tables.{front, put-over-zeros}
+use Rattle.widths.proofs.Tables.{front}
 use Rattle.widths.proofs.Widths.new.Goals as goal
 
 table-with : List ℕ → Widths
@@ -22,4 +23,5 @@ returns-then-entries-ge65 c =
 pub returns : goal.returns
 unfolding table_of table-with
 returns c =
-    ap table-with (c.copy.ensures ∙ put-over-zeros c.args.entries.now (omega (arith, c.if-entries-ge65.false)))
+    let i = c.loop-n.invariant in
+    ap table-with (tabulate_is 65 (λ k. get_or c.args.entries.now k 0) _ i.0 (λ k l. i.1 k (omega (arith, l))))

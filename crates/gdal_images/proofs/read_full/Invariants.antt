@@ -1,0 +1,6 @@
+-- What is read stands in the buffer.
+use Rattle.std.proofs.Common.{◌≤◌, length}
+use Rattle.gdal_images.proofs.read_full.Given as goal
+
+abbrev pub invariant-loop : goal.invariant-loop
+invariant-loop g l = l.done ≤ length l.buf
