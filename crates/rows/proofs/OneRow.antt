@@ -1,15 +1,16 @@
 -- Laws of rows that follow each other on both sides: they are one row of all their samples.
 -- Assumes nothing.
 use Prim.Native.Nat.{ℕ, zero, suc, ◌+◌, ◌-◌, ◌*◌, ◌/◌, ◌%◌, ◌≤◌, ◌<◌}
-use mathlib.Core.Path.{◌≡◌, refl, sym, ap, ◌∙◌}
+use mathlib.Core.Path.{◌≡◌, refl, sym, ap, ap₂, ◌∙◌}
 use mathlib.Core.List.{List}
 use native.Mathlib.Omega.{arith}
 use native.Mathlib.Nat.{mul-le-mul_left, mul-le-mul_right, zero-mul, div-add-mod', div-lt_iff_lt-mul, mod-lt}
 use lib.ListN.{length}
+use Rattle.common.specs.Over.{over}
 use Rattle.common.specs.Turns.{iter}
 use Rattle.common.proofs.Turns.{iter_steps}
 use Rattle.bits.specs.Bits.{bits_at}
-use Rattle.bits.specs.Values.{side_by_side}
+use Rattle.bits.specs.Values.{values, side_by_side}
 use Rattle.bits.proofs.Bits.{within, next-sample}
 use Rattle.bits.proofs.Values.{values-none, values_run}
 use Rattle.samples.specs.Internal.Samples.{spaced, samples_read, samples_written, SamplesFit}
@@ -88,3 +89,26 @@ module _ (at step w s count m o : ℕ) {row line : ℕ} (er : row ≡ count * st
       (rw ((starts i).0, (starts i).1, n) refl))
       ∙ ap (iter m (row_written dat o line s w at row step count))
       (sym (put_spaced-none (side_by_side dat o s) w at step d))
+
+-- ---- one row alone
+
+pub only_row : (xs : List ℕ) (at row step w s count o line : ℕ) (d : List ℕ) {zs : List ℕ}
+    → zs ≡ rows_read xs at row step w s count o line 1 d → zs ≡ samples_read xs at step w s count o d
+unfolding iter
+only_row xs at row step w s count o line d ez =
+    ez ∙ ap₂ (λ (p q : ℕ). over d p (values (spaced xs q step w) s count)) (omega arith) (omega arith)
+
+-- ---- rows of one sample each, side by side in the lent data: one row of as many samples
+
+pub column_as_one : (xs : List ℕ) (at row step w s m o : ℕ) (d : List ℕ) {zs : List ℕ} → o + m * s ≤ length d
+    → zs ≡ samples_read xs at row w s m o d → zs ≡ rows_read xs at row step w s 1 o s m d
+unfolding spaced
+column_as_one xs at row step w s m o d room ez =
+    ez
+    ∙ sym
+    (iter_steps (λ i z. z ≡ samples_read xs at row w s i o d) m (row_read xs at row step w s 1 o s) d
+    (λ i h z e.
+    values_run (spaced xs at row w) (spaced xs (at + i * row) step w) s d o i 1 (omega (arith, mul-le-mul_right s h)) e refl
+    (λ j l.
+    let first : j ≡ 0 = omega arith in rw first (ap (λ (x : ℕ). bits_at xs x w) (omega arith))))
+    (values-none (spaced xs at row w) s d o))

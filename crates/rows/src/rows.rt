@@ -85,22 +85,7 @@ impl Rows {
 }
 
 impl ByteRows {
-    ghost use Rattle.rows.specs.Internal.Places.{ByteRowOf, Turned};
-
-    // Row i.
-    pub fn row(self, i: usize) -> ByteRow
-        requires { (self.first.at + i * self.apart < 2 ^ 64) × (self.first.data_at + i * self.data_apart < 2 ^ 64) }
-        ensures { ByteRowOf self i result }
-    {
-        let first = self.first;
-        ByteRow {
-            at: first.at + i * self.apart,
-            step: first.step,
-            size: first.size,
-            count: first.count,
-            data_at: first.data_at + i * self.data_apart,
-        }
-    }
+    ghost use Rattle.rows.specs.Internal.Places.{Turned};
 
     // The same with `size`, which is their own: a literal is then known to the loop they go to.
     pub fn of_size(self, size: usize) -> ByteRows

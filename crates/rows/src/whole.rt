@@ -6,9 +6,12 @@ ghost use Rattle.rows.specs.Internal.Places.{ByteRowsInImage, ByteRowsInData, wh
 use crate::rows::ByteRows;
 use bits::bytes::copy;
 use samples::read::gather_any;
+use samples::row::ByteRow;
 
 // `rows` rows of `count` samples of `size` bytes that stand side by side, from index `at` of `src` to index `to` of
-// `out` on. Rows start `row` bytes apart in `src` and `line` bytes apart in `out`. A sample may have any size.
+// `out` on. Rows start `row` bytes apart in `src` and `line` bytes apart in `out`. A sample may have any size. A
+// call of its own: in line in `moves`, where registers are few, short rows take some 1.05 times as long.
+#[inline(never)]
 pub fn copy_rows(
     src: &[u8],
     at: usize,
@@ -59,8 +62,18 @@ fn gather_rows_any(src: &[u8], rows: ByteRows, out: &mut [u8])
     requires out_holds { ByteRowsInData rows (length out.old) }
     ensures { out.new ≡ whole_rows_at src.now rows out.old }
 {
+    let first = rows.first;
+    // made here: by a method of `rows` clang stores a pointer in each turn, and many short rows that are more than the
+    // cache holds take 1.7 times as long
     for i in 0..rows.count {
-        gather_any(src, rows.row(i), out);
+        let row = ByteRow {
+            at: first.at + i * rows.apart,
+            step: first.step,
+            size: first.size,
+            count: first.count,
+            data_at: first.data_at + i * rows.data_apart,
+        };
+        gather_any(src, row, out);
     }
 }
 
@@ -82,6 +95,29 @@ pub fn gather_rows(src: &[u8], rows: ByteRows, out: &mut [u8])
     }
 }
 
+// The same of rows of one sample each, side by side in the data: they are gathered as one row.
+fn gather_column(src: &[u8], rows: ByteRows, out: &mut [u8])
+    requires one_each { (0 < rows.count) × (rows.first.count ≡ 1) × (rows.data_apart ≡ rows.first.size) }
+    requires src_holds { ByteRowsInImage rows (length src.now) }
+    requires out_holds { ByteRowsInData rows (length out.old) }
+    ensures { out.new ≡ whole_rows_at src.now rows out.old }
+{
+    let column = ByteRow {
+        at: rows.first.at,
+        step: rows.apart,
+        size: rows.first.size,
+        count: rows.count,
+        data_at: rows.first.data_at,
+    };
+    let alone = ByteRows {
+        first: column,
+        count: 1,
+        apart: 0,
+        data_apart: 0,
+    };
+    gather_rows(src, alone, out)
+}
+
 // The same: copied where the samples stand side by side, and else gathered.
 pub fn whole_rows(src: &[u8], rows: ByteRows, out: &mut [u8])
     requires some { (0 < rows.first.count) × (0 < rows.count) }
@@ -89,7 +125,9 @@ pub fn whole_rows(src: &[u8], rows: ByteRows, out: &mut [u8])
     requires out_holds { ByteRowsInData rows (length out.old) }
     ensures { out.new ≡ whole_rows_at src.now rows out.old }
 {
-    if rows.first.step == rows.first.size {
+    if rows.first.count == 1 && rows.data_apart == rows.first.size {
+        gather_column(src, rows, out)
+    } else if rows.first.step == rows.first.size {
         copy_byte_rows(src, rows, out)
     } else {
         gather_rows(src, rows, out)

@@ -9,4 +9,4 @@ loop-i-init c = iter-none _ _
 
 pub loop-i-preserved : goal.loop-i-preserved
 loop-i-preserved c =
-    iter_turn _ _ c.loop-i.i c.loop-i.invariant (byte_row_is_read c.args.rows _ _ c.row.ensures _ _ c.gather_any.ensures)
+    iter_turn _ _ c.loop-i.i c.loop-i.invariant (byte_row_is_read c.args.rows c.loop-i.i _ _ c.gather_any.ensures)
