@@ -10,12 +10,13 @@ use Rattle.bits.specs.Bits.{Bytes}
 use Rattle.bits.specs.Values.{values}
 use Rattle.bits.proofs.Bits.{within}
 use Rattle.samples.specs.declared.row.Row.{Row}
+use Rattle.samples.specs.declared.row.ByteRow.{ByteRow}
 use Rattle.samples.specs.Internal.Samples.{spaced, samples_read}
-use Rattle.samples.specs.Internal.Row.{AtBytes, InImage, InData, Fit, read_at, written_at}
+use Rattle.samples.specs.Internal.Row.{AtBytes, InImage, InData, Fit, read_at, written_at, bytes_read_at}
 use Rattle.rows.specs.declared.rows.Rows.{Rows}
 use Rattle.rows.specs.declared.rows.ByteRows.{ByteRows}
 use Rattle.rows.specs.Internal.Rows.{Movable, row_read, row_written}
-use Rattle.rows.specs.Internal.Places.{RowOf, OneRow, BytesOfRows, Turned, RowsInImage, RowsInData, RowsFit}
+use Rattle.rows.specs.Internal.Places.{RowOf, OneRow, BytesOfRows, Turned, ByteRowOf, RowsInImage, RowsInData, RowsFit}
 use Rattle.rows.specs.Internal.Places.{rows_read_at, rows_written_at, ByteRowsInImage, ByteRowsInData, whole_rows_at}
 use Rattle.rows.proofs.OneRow.{one-row, fit_as_one, read_as_one, written_as_one}
 use Rattle.rows.proofs.WholeBytes.{rows_end, rows-end-beside, rows-read, rows_written_lem}
@@ -81,17 +82,25 @@ module _ (rows : Rows) (row : Row) (o : OneRow rows row) where
 
 -- ---- rows of whole bytes
 
--- row i, counted in bits
-pub byte_row_is_read : (rows : ByteRows) (i : ℕ) (xs ys : List ℕ) {zs : List ℕ}
+-- the samples of row i, counted in bits
+pub byte_row_from_samples : (rows : ByteRows) (i : ℕ) (xs ys : List ℕ) {zs : List ℕ}
     → zs ≡ samples_read xs (8 * (rows.first.at + i * rows.apart)) (8 * rows.first.step) (8 * rows.first.size)
     rows.first.size rows.first.count (rows.first.data_at + i * rows.data_apart) ys
     → zs ≡ row_read xs (8 * rows.first.at) (8 * rows.apart) (8 * rows.first.step) (8 * rows.first.size) rows.first.size
     rows.first.count rows.first.data_at rows.data_apart i ys
-byte_row_is_read rows i xs ys e =
+byte_row_from_samples rows i xs ys e =
     let f = rows.first in
     e
     ∙ ap (λ (p : ℕ). over ys (f.data_at + i * rows.data_apart) (values (spaced xs p (8 * f.step) (8 * f.size)) f.size f.count))
     (omega arith)
+
+-- row i, counted in bits
+pub byte_row_is_read : (rows : ByteRows) (i : ℕ) (row : ByteRow) → ByteRowOf rows i row → (xs ys : List ℕ) {zs : List ℕ}
+    → zs ≡ bytes_read_at xs row ys
+    → zs ≡ row_read xs (8 * rows.first.at) (8 * rows.apart) (8 * rows.first.step) (8 * rows.first.size) rows.first.size
+    rows.first.count rows.first.data_at rows.data_apart i ys
+byte_row_is_read rows i row r xs ys e =
+    byte_row_from_samples rows i xs ys (rw (r.at, r.step, r.size, r.count, r.data_at) at e)
 
 module _ (rows : Rows) (bytes : ByteRows) (b : BytesOfRows rows bytes) (e : rows.first.width ≡ 8 * rows.first.size)
     (n : ℕ) (m : RowsInImage rows n) where

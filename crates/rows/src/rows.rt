@@ -85,7 +85,22 @@ impl Rows {
 }
 
 impl ByteRows {
-    ghost use Rattle.rows.specs.Internal.Places.{Turned};
+    ghost use Rattle.rows.specs.Internal.Places.{ByteRowOf, Turned};
+
+    // Row i.
+    pub fn row(self, i: usize) -> ByteRow
+        requires { (self.first.at + i * self.apart < 2 ^ 64) × (self.first.data_at + i * self.data_apart < 2 ^ 64) }
+        ensures { ByteRowOf self i result }
+    {
+        let first = self.first;
+        ByteRow {
+            at: first.at + i * self.apart,
+            step: first.step,
+            size: first.size,
+            count: first.count,
+            data_at: first.data_at + i * self.data_apart,
+        }
+    }
 
     // The same with `size`, which is their own: a literal is then known to the loop they go to.
     pub fn of_size(self, size: usize) -> ByteRows
@@ -114,6 +129,33 @@ impl ByteRows {
             count: self.count,
             apart: self.data_apart,
             data_apart: self.apart,
+        }
+    }
+}
+
+#[cfg(test)]
+mod tests {
+    use super::*;
+
+    #[test]
+    fn rows_of_whole_bytes(rt: HostRuntime) {
+        let first = ByteRow {
+            at: 5,
+            step: 4,
+            size: 2,
+            count: 3,
+            data_at: 7,
+        };
+        let rows = ByteRows {
+            first,
+            count: 3,
+            apart: 100,
+            data_apart: 6,
+        };
+        for (i, at, data_at) in [(0, 5, 7), (1, 105, 13), (2, 205, 19)] {
+            let row = rows.row(i);
+            assert_eq!(rt; [row.at, row.data_at], [at, data_at], "of row {i}");
+            assert_eq!(rt; [row.step, row.size, row.count], [4, 2, 3], "of row {i}");
         }
     }
 }

@@ -67,6 +67,14 @@ rows_written_at xs rows ys =
 
 -- ---- samples of whole bytes
 
+-- row i of rows
+pub record ByteRowOf (rows : ByteRows) (i : ℕ) (row : ByteRow) : Type 0 where
+  pub at : row.at ≡ rows.first.at + i * rows.apart
+  pub step : row.step ≡ rows.first.step
+  pub size : row.size ≡ rows.first.size
+  pub count : row.count ≡ rows.first.count
+  pub data_at : row.data_at ≡ rows.first.data_at + i * rows.data_apart
+
 -- rows of samples side by side, with the image for the data and the data for the image
 pub record Turned (rows turned : ByteRows) : Type 0 where
   pub at : turned.first.at ≡ rows.first.data_at
